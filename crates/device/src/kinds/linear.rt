@@ -1,0 +1,76 @@
+// The linear rail: level = lowest + code × step.
+ghost use mathlib.Core.Path.{_≡_};
+ghost use Rattle.device.specs.Device.{Written, Willing};
+ghost use Rattle.device.specs.Figures.{linear, Made};
+ghost use Rattle.device.specs.Supplied.{linear-figures, linear-model};
+use super::super::Code;
+use super::super::MOST_CODES;
+use super::super::TOP_LEVEL;
+use super::super::answers::Answer;
+use super::super::register::Register;
+use super::super::regulator::Regulator;
+use super::LinearRail;
+use answer::Fault;
+use answer::Refusal;
+
+impl LinearRail {
+    // A rail at code 0, or 4 where a figure or a level is out of its range.
+    pub fn new(lowest: u32, step: u32, count: Code) -> Result<LinearRail, Fault>
+        ensures { λ r. ⌜ Made linear-figures linear-model (linear lowest step count) r ⌝ }
+    {
+        if lowest < 1 || lowest > TOP_LEVEL {
+            return Err(Fault::table(Refusal::OutOfRange, 0));
+        }
+        if step < 1 || step > TOP_LEVEL {
+            return Err(Fault::table(Refusal::OutOfRange, 0));
+        }
+        if count < 1 || count > MOST_CODES {
+            return Err(Fault::table(Refusal::OutOfRange, 0));
+        }
+        if lowest + (u32::from(count) - 1) * step > TOP_LEVEL {
+            return Err(Fault::table(Refusal::OutOfRange, 0));
+        }
+        Ok(LinearRail {
+            lowest,
+            step,
+            count,
+            register: Register::new(),
+        })
+    }
+}
+
+pub impl Regulator for LinearRail as LinearRegulator {
+    ghost model = { linear-model };
+
+    fn count(&self) -> Code {
+        self.count
+    }
+
+    fn level(&self, code: Code) -> u32 {
+        if code < self.count {
+            self.lowest + u32::from(code) * self.step
+        } else {
+            0
+        }
+    }
+
+    fn code(&self) -> Code {
+        self.register.code()
+    }
+
+    fn tally(&self) -> u64 {
+        self.register.tally()
+    }
+
+    fn write(&mut self, code: Code) -> Answer
+        ensures { λ r. ⌜ Written (linear-model (now (self .entry))) code r (linear-model (now (self .exit))) ⌝ }
+        ensures willing { λ r. ⌜ Willing (linear-model (now (self .entry))) code r ⌝ }
+    {
+        if code < self.count && code != self.register.code() {
+            self.register.put(code);
+            Answer::Done
+        } else {
+            Answer::NoSuchWrite
+        }
+    }
+}

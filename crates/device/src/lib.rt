@@ -1,0 +1,24 @@
+// Devices: a regulator or a clock, by its levels, its present code and its tally of writes.
+pub mod answers;
+pub mod clock;
+pub mod kinds;
+pub mod register;
+pub mod regulator;
+
+pub use answers::Answer;
+pub use clock::Clock;
+pub use kinds::DividerClock;
+pub use kinds::LinearRail;
+pub use kinds::TableRail;
+pub use kinds::TreeClock;
+pub use kinds::linear::LinearRegulator;
+pub use regulator::Regulator;
+
+// A device's selector, counted from 0.
+pub type Code = u16;
+
+// A device has at most this many codes.
+pub const MOST_CODES: Code = 64;
+
+// Levels are in µV on a rail and in kHz on a clock, each from 1 to this.
+pub const TOP_LEVEL: u32 = 5_000_000;
