@@ -16,12 +16,12 @@ pub struct Fault {
     // The part that was written to, or 255.
     pub part: u8,
     // The record or the write that the fault is about, or 0.
-    pub place: u32,
+    pub place: usize,
 }
 
 impl Fault {
     // A fault of the table layer, at a record's number, or at 0 where there is no record.
-    pub fn table(refusal: Refusal, place: u32) -> Fault
+    pub fn table(refusal: Refusal, place: usize) -> Fault
         ensures { λ r. ⌜ r ≡ table-fault refusal place ⌝ }
     {
         Fault {

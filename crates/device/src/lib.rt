@@ -2,6 +2,7 @@
 pub mod answers;
 pub mod clock;
 pub mod kinds;
+pub mod limits;
 pub mod register;
 pub mod regulator;
 

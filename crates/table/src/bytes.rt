@@ -1,0 +1,29 @@
+// Numbers in the table's bytes, the lowest byte first.
+ghost use mathlib.Core.Path.{_≡_};
+ghost use Prim.Native.Nat.{_+_, _≤_};
+ghost use lib.ListN.{length, drop};
+ghost use Rattle.table.specs.Bytes.{field};
+
+// The number of two bytes at a place.
+pub(crate) fn half(bytes: &[u8], at: usize) -> u16
+    requires { ⌜ at + 2 ≤ length (now bytes) ⌝ }
+    ensures { λ r. ⌜ r ≡ field (now (bytes .entry)) at 2 ⌝ }
+{
+    u16::from_le_bytes([bytes[at], bytes[at + 1]])
+}
+
+// The number of four bytes at a place.
+pub(crate) fn word(bytes: &[u8], at: usize) -> u32
+    requires { ⌜ at + 4 ≤ length (now bytes) ⌝ }
+    ensures { λ r. ⌜ r ≡ field (now (bytes .entry)) at 4 ⌝ }
+{
+    u32::from_le_bytes([bytes[at], bytes[at + 1], bytes[at + 2], bytes[at + 3]])
+}
+
+// The bytes from a place on.
+pub(crate) fn after(bytes: &[u8], at: usize) -> &[u8]
+    requires { ⌜ at ≤ length (now bytes) ⌝ }
+    ensures { λ r. ⌜ now r ≡ drop at (now (bytes .entry)) ⌝ }
+{
+    &bytes[at..]
+}

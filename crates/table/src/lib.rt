@@ -1,0 +1,14 @@
+// The constraint table of a board: its bytes read record by record, and as a whole.
+pub mod bytes;
+pub mod first;
+pub mod kind;
+pub mod range;
+pub mod reader;
+pub mod record;
+pub mod rule;
+
+pub use kind::RecordKind;
+pub use reader::Reader;
+pub use record::Placed;
+pub use record::Record;
+pub use rule::Rule;
