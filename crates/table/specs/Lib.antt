@@ -3,3 +3,4 @@ pub mod Kinds
 pub mod Meaning
 pub mod Reading
 pub mod Records
+pub mod Tables

@@ -43,3 +43,29 @@ front bs =
     cond (eqb (length bs) 0) finished
     (cond (ltb (length bs) 4) (refused Truncated)
     (framed (field bs 0 2) bs (known (field bs 2 2))))
+
+-- a table read to its end, with the number of its records, or sent back at a record
+pub data Verdict (S : Type 0) : Type 0 where
+  accepted : ℕ → S → Verdict S
+  sent-back : Refusal → ℕ → Verdict S
+
+-- what follows from what stands at the front
+abbrev pub by-front : {V : Type 0} → Front → V → (Refusal → V) → (Rec → ℕ → V) → V
+by-front finished end stop go = end
+by-front (refused why) end stop go = stop why
+by-front (found r size) end stop go = go r size
+
+-- what follows from whether a record was added
+abbrev pub by-added : {S V : Type 0} → Result S Refusal → (S → V) → (Refusal → V) → V
+by-added (Ok t) go stop = go t
+by-added (Err why) go stop = stop why
+
+-- The reading of the records, one after the other. Each is handed to `add`, which adds it to what was read or
+-- refuses it. The first number is how many bytes of the last record are still to be passed over, the second how many
+-- records were read.
+abbrev pub walk : {S : Type 0} → (S → Rec → Result S Refusal) → ℕ → ℕ → S → List ℕ → Verdict S
+walk add skip number s [] = accepted number s
+walk add (suc skip) number s (b ∷ bs) = walk add skip number s bs
+walk add zero number s (b ∷ bs) =
+    by-front (front (b ∷ bs)) (accepted number s) (λ why. sent-back why number)
+    (λ r size. by-added (add s r) (λ t. walk add (size - 1) (number + 1) t bs) (λ why. sent-back why number))
