@@ -73,11 +73,11 @@ front-encoded r rest h =
     let four : ltb (length bs) 4 ≡ false = le-ltb (length bs) 4 (omega arith) in
     let known-is : known (field bs 2 2) ≡ Some (record-kind r) = ap known kind ∙ known-kind (record-kind r) in
     let cut : body-of r ≡ take ((2 + (n + 2)) - 4) (drop 4 bs) =
-          sym (ap (λ m. take m (body-of r ++ rest)) (omega arith) ∙ take-at (body-of r) rest n refl) in
+    sym (ap (λ m. take m (body-of r ++ rest)) (omega arith) ∙ take-at (body-of r) rest n refl) in
     let fits : true ≡ body-ok (record-kind r) ((n + 2) - 2) =
-          sym (ap (body-ok (record-kind r)) (omega arith) ∙ sized .0) in
+    sym (ap (body-ok (record-kind r)) (omega arith) ∙ sized .0) in
     let right : framed (n + 2) bs (Some (record-kind r)) ≡ found r (2 + (n + 2)) =
-          framed-right (record-kind r) (n + 2) bs (body-of r) r true (omega arith) fits (omega arith) cut (sym (record-again r (p .0) (p .1))) (sym (p .1)) in
+    framed-right (record-kind r) (n + 2) bs (body-of r) r true (omega arith) fits (omega arith) cut (sym (record-again r (p .0) (p .1))) (sym (p .1)) in
     let size : 2 + (n + 2) ≡ length (encode r) = omega arith in
     simp (some, four, known-is, stated) (right ∙ ap (found r) size)
 
@@ -92,14 +92,15 @@ pub record Within (bs : List ℕ) (size : ℕ) (kind : RecordKind) (r : Rec) (n 
 
 -- a record that is found has passed each check
 framed-found : (size : ℕ) (bs : List ℕ) (o : Option RecordKind) (r : Rec) (n : ℕ) → framed size bs o ≡ found r n
-  → (kind : RecordKind) × (o ≡ Some kind) × Within bs size kind r n
+    → (kind : RecordKind) × (o ≡ Some kind) × Within bs size kind r n
 framed-found size bs None r n e = let z : _≡_ {A = ℕ} 0 1 = cc in absurd (omega arith)
 framed-found size bs (Some kind) r n e = go (leb 2 size && body-ok kind (size - 2)) (leb (2 + size) (length bs)) (figures-ok held) refl refl refl
   where
     held : Rec
     held = decode kind (take (size - 2) (drop 4 bs))
+
     go : (a b c : Bool) → (leb 2 size && body-ok kind (size - 2)) ≡ a → leb (2 + size) (length bs) ≡ b → figures-ok held ≡ c
-      → (kind′ : RecordKind) × (Some kind ≡ Some kind′) × Within bs size kind′ r n
+        → (kind′ : RecordKind) × (Some kind ≡ Some kind′) × Within bs size kind′ r n
     go false b c x y w =
         let s : refused _ ≡ found r n = simp x at e in
         let z : _≡_ {A = ℕ} 0 1 = cc in absurd (omega arith)
@@ -112,15 +113,18 @@ framed-found size bs (Some kind) r n e = go (leb 2 size && body-ok kind (size - 
     go true true true x y w =
         let s : found held (2 + size) ≡ found r n = simp (x, y, w) at e in
         let p = and-parts (leb 2 size) (body-ok kind (size - 2)) x in
-        let same : held ≡ r = cc in
-        (kind, refl, record {
-          some = leb-true 2 size (p .0);
-          fits = p .1;
-          there = leb-true (2 + size) (length bs) y;
-          held = sym same;
-          ranged = ap figures-ok (sym same) ∙ w;
-          whole = cc;
-        })
+        let same : held ≡ r = cc in (
+          kind,
+          refl,
+          record {
+            some = leb-true 2 size (p .0);
+            fits = p .1;
+            there = leb-true (2 + size) (length bs) y;
+            held = sym same;
+            ranged = ap figures-ok (sym same) ∙ w;
+            whole = cc;
+          },
+        )
 
 -- what a record at the front tells of the bytes
 pub record Begins (bs : List ℕ) (r : Rec) (n : ℕ) : Type 0 where
@@ -188,6 +192,7 @@ front-finished bs e = go (eqb (length bs) 0) (ltb (length bs) 4) refl refl
         cases true false c x y v = let s : refused _ ≡ finished = simp (x, y) at w in let z : _≡_ {A = ℕ} 0 1 = cc in omega arith
         cases true true false x y v = let s : refused _ ≡ finished = simp (x, y, v) at w in let z : _≡_ {A = ℕ} 0 1 = cc in omega arith
         cases true true true x y v = let s : found _ _ ≡ finished = simp (x, y, v) at w in let z : _≡_ {A = ℕ} 0 1 = cc in omega arith
+
     go : (s t : Bool) → eqb (length bs) 0 ≡ s → ltb (length bs) 4 ≡ t → length bs ≡ 0
     go true t x y = eqb-true (length bs) 0 x
     go false true x y =

@@ -5,6 +5,8 @@ use mathlib.Core.List.{List, [], _∷_, _++_}
 use lib.ListN.{length, getD, take, drop, length-drop}
 use lib.Seq.{getD-drop, drop-cons}
 use native.Mathlib.Omega.{arith}
+use mir.Syntax.{w8}
+use mir.Val.{Fits}
 use Rattle.std.specs.Joined.{joined}
 use Rattle.std.proofs.shelf.Lists.{drop-drop, drop-all, drop-more, append-nil}
 use Rattle.table.specs.Bytes.{field, le, words, Bytes}
@@ -22,10 +24,10 @@ bytes-take zero bs h = tt
 bytes-take (suc n) [] h = tt
 bytes-take (suc n) (b ∷ bs) h = (h .0, bytes-take n bs (h .1))
 
--- each element below 256 makes a list of bytes
-pub bytes-from : (bs : List ℕ) → ((i : ℕ) → getD bs i 0 < 256) → Bytes bs
+-- what a slice of bytes holds is bytes
+pub bytes-from : (bs : List ℕ) → ((i : ℕ) → Fits w8 (getD bs i 0)) → Bytes bs
 bytes-from [] h = tt
-bytes-from (b ∷ bs) h = (h 0, bytes-from bs (λ i. h (suc i)))
+bytes-from (b ∷ bs) h = ((let f = h 0 in omega arith), bytes-from bs (λ i. h (suc i)))
 
 pub byte-at : (bs : List ℕ) (i : ℕ) → Bytes bs → getD bs i 0 < 256
 byte-at [] i h = omega arith
@@ -40,7 +42,7 @@ le-at (suc w) bs tail at b h e =
     let low : (getD bs at 0 + 256 * field bs (at + 1) w) % 256 ≡ getD bs at 0 = omega arith in
     let high : (getD bs at 0 + 256 * field bs (at + 1) w) / 256 ≡ field bs (at + 1) w = omega arith in
     let rest : le w (field bs (at + 1) w) ++ tail ≡ drop (at + 1) bs =
-          le-at w bs tail (at + 1) b (omega arith) (e ∙ ap (λ n. drop n bs) (omega arith)) in
+    le-at w bs tail (at + 1) b (omega arith) (e ∙ ap (λ n. drop n bs) (omega arith)) in
     let here : drop at bs ≡ getD bs at 0 ∷ drop (at + 1) bs = drop-more bs at 0 (omega arith) in
     simp (low, high, rest) (sym here)
 

@@ -61,10 +61,12 @@ module _ {S : Type 0} (add : S → Rec → Result S Refusal) where
     where
       here : front bs ≡ found r (length (encode r))
       here = ap front (sym (e .bytes)) ∙ front-encoded r (joined encode rs) (e .ranged .0)
+
       behind : drop (length (encode r)) bs ≡ joined encode rs
       behind = ap (drop (length (encode r))) (sym (e .bytes)) ∙ drop-at (encode r) (joined encode rs) (length (encode r)) refl
+
       go : ((u : S) → run add u rs ≡ Ok t → walk add 0 (n + 1) u (joined encode rs) ≡ accepted (n + 1 + length rs) t)
-        → (x : Result S Refusal) → add s r ≡ x → walk add 0 n s bs ≡ accepted (n + length (r ∷ rs)) t
+          → (x : Result S Refusal) → add s r ≡ x → walk add 0 n s bs ≡ accepted (n + length (r ∷ rs)) t
       go later (Err why) a =
           let w : Err why ≡ Ok t = sym (ap (λ x. by-added x (λ u. run add u rs) (λ v. Err v)) a) ∙ h in
           let z : _≡_ {A = ℕ} 0 1 = cc in absurd (omega arith)
@@ -80,8 +82,8 @@ module _ {S : Type 0} (add : S → Rec → Result S Refusal) where
   Read-as n m s t bs = (rs : List Rec) × Encodes rs bs × (run add s rs ≡ Ok t) × (m ≡ n + length rs)
 
   one-more : (n m : ℕ) (s t : S) (bs : List ℕ) → Bytes bs
-    → ((n′ : ℕ) (s′ : S) (rest : List ℕ) → Bytes rest → length rest < length bs → walk add 0 n′ s′ rest ≡ accepted m t → Read-as n′ m s′ t rest)
-    → walk add 0 n s bs ≡ accepted m t → (f : Front) → front bs ≡ f → Read-as n m s t bs
+      → ((n′ : ℕ) (s′ : S) (rest : List ℕ) → Bytes rest → length rest < length bs → walk add 0 n′ s′ rest ≡ accepted m t → Read-as n′ m s′ t rest)
+      → walk add 0 n s bs ≡ accepted m t → (f : Front) → front bs ≡ f → Read-as n m s t bs
   one-more n m s t bs b later e finished f =
       let w : accepted n s ≡ accepted m t = sym (walk-end n s bs f) ∙ e in
       let same : s ≡ t = cc in
@@ -94,6 +96,7 @@ module _ {S : Type 0} (add : S → Rec → Result S Refusal) where
     where
       begins : Begins bs r size
       begins = front-found bs r size b f
+
       go : (x : Result S Refusal) → add s r ≡ x → Read-as n m s t bs
       go (Err why) a =
           let w : sent-back why n ≡ accepted m t = sym (walk-not-added n s bs r size why f a) ∙ e in
@@ -102,11 +105,12 @@ module _ {S : Type 0} (add : S → Rec → Result S Refusal) where
           let one : 1 ≤ size = omega (arith, begins .some) in
           let shorter : length (drop size bs) < length bs = omega (arith, length-drop size bs, begins .some, begins .inside) in
           let w : walk add 0 (n + 1) u (drop size bs) ≡ accepted m t = sym (walk-more n s u bs r size f one a) ∙ e in
-          let rest = later (n + 1) u (drop size bs) (bytes-drop size bs b) shorter w in
-          ( r ∷ rest .0
-          , record { ranged = (begins .ranged, rest .1 .ranged); bytes = ap (λ q. encode r ++ q) (rest .1 .bytes) ∙ begins .bytes }
-          , ap (λ x. by-added x (λ v. run add v (rest .0)) (λ v. Err v)) a ∙ rest .2
-          , omega (arith, rest .3) )
+          let rest = later (n + 1) u (drop size bs) (bytes-drop size bs b) shorter w in (
+            r ∷ rest .0,
+            record { ranged = (begins .ranged, rest .1 .ranged); bytes = ap (λ q. encode r ++ q) (rest .1 .bytes) ∙ begins .bytes },
+            ap (λ x. by-added x (λ v. run add v (rest .0)) (λ v. Err v)) a ∙ rest .2,
+            omega (arith, rest .3),
+          )
 
   -- and bytes that are read to their end are the bytes of records in range
   pub walk-accepted : (k n m : ℕ) (s t : S) (bs : List ℕ) → Bytes bs → length bs ≤ k → walk add 0 n s bs ≡ accepted m t → Read-as n m s t bs

@@ -1,3 +1,4 @@
+pub mod Answered
 pub mod Bytes
 pub mod Kinds
 pub mod Meaning

@@ -1,6 +1,7 @@
 -- Tables as wholes.
 --   Encodes      records in range, and the bytes that they make one after the other
 --   run          records handed on one after the other
+--   records-of   the records that some bytes are read as
 use Prim.Native.Nat.{ℕ, _+_}
 use mathlib.Core.Path.{_≡_}
 use mathlib.Core.Bool.{Bool, true}
@@ -22,3 +23,11 @@ pub record Encodes (rs : List Rec) (bs : List ℕ) : Type 0 where
 abbrev pub run : {S : Type 0} → (S → Rec → Result S Refusal) → S → List Rec → Result S Refusal
 run add s [] = Ok s
 run add s (r ∷ rs) = by-added (add s r) (λ t. run add t rs) (λ why. Err why)
+
+-- a record is kept behind those before it
+abbrev pub keep : List Rec → Rec → Result (List Rec) Refusal
+keep rs r = Ok (rs ++ r ∷ [])
+
+-- the records of a table, or the record at which it is sent back
+abbrev pub records-of : List ℕ → Verdict (List Rec)
+records-of bs = walk keep 0 0 [] bs

@@ -4,11 +4,13 @@ pub mod first;
 pub mod kind;
 pub mod range;
 pub mod reader;
+pub mod reading;
 pub mod record;
 pub mod rule;
 
 pub use kind::RecordKind;
 pub use reader::Reader;
+pub use reading::records;
 pub use record::Placed;
 pub use record::Record;
 pub use rule::Rule;
