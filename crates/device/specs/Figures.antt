@@ -1,5 +1,6 @@
 -- The four supplied kinds of devices, by the figures that they are made from.
 --   Figures      the figures of a device, by kind
+--   kind-of      whether these are the figures of a rail or of a clock
 --   codes-of     how many codes a device of these figures has
 --   level-of     code to level: the conversion of each kind
 --   linked-of    which codes one write joins
@@ -21,6 +22,8 @@ use Rattle.answer.specs.declared.refusal.Refusal.the-variants.{WrongLength, Out
 use Rattle.answer.specs.declared.fault.Fault.{Fault}
 use Rattle.answer.specs.Faults.{table-fault}
 use Rattle.device.specs.Device.{Device, any-two, Fresh}
+use Rattle.device.specs.declared.kind.Kind.{Kind}
+use Rattle.device.specs.declared.kind.Kind.the-variants.{Rail, Clock}
 
 -- the figures of a device: µV on a rail, kHz on a clock
 pub data Figures : Type 0 where
@@ -28,6 +31,13 @@ pub data Figures : Type 0 where
   listed : (levels : List ℕ) → Figures
   divider : (parent count : ℕ) → Figures
   tree : (divisors : ℕ) (parents : List ℕ) → Figures
+
+-- a rail or a clock
+abbrev pub kind-of : Figures → Kind
+kind-of (linear lowest step count) = Rail
+kind-of (listed levels) = Rail
+kind-of (divider parent count) = Clock
+kind-of (tree divisors parents) = Clock
 
 -- a quotient, rounded up
 abbrev pub rounded-up : ℕ → ℕ → ℕ

@@ -6,7 +6,11 @@ ghost use Rattle.std.specs.Of.Vec.{vec-items, vec-len};
 use super::Code;
 use super::register::Register;
 
+pub mod divider;
 pub mod linear;
+pub mod listed;
+mod quotient;
+pub mod tree;
 
 // A rail with a lowest level and a step: the level of a code is that many steps above the lowest.
 #[derive(Drop)]

@@ -1,18 +1,28 @@
 // The ranges of the figures that devices are made from.
 ghost use mathlib.Core.Path.{_≡_};
-ghost use Rattle.device.specs.Figures.{from-to, level-ok, linear, divider, ranged};
+ghost use Rattle.device.specs.Figures.{from-to, level-ok, levels-ok, linear, divider, ranged};
 use super::Code;
 use super::MOST_CODES;
+use super::MOST_DIVISORS;
 use super::TOP_LEVEL;
-
-// A tree clock has at most this many parents, and at most this many divisors.
-pub const MOST_TURNS: Code = 8;
 
 // A level, a parent's rate or a step: 1 to 5,000,000.
 pub fn is_level(level: u32) -> bool
     ensures { λ r. ⌜ r ≡ level-ok level ⌝ }
 {
     level >= 1 && level <= TOP_LEVEL
+}
+
+// Each of a list of levels.
+pub fn are_levels(levels: &[u32]) -> bool
+    ensures { λ r. ⌜ r ≡ levels-ok (now (levels .entry)) ⌝ }
+{
+    for level in levels {
+        if !is_level(*level) {
+            return false;
+        }
+    }
+    true
 }
 
 // A number of codes: 1 to 64.
@@ -26,7 +36,7 @@ pub fn is_count(count: Code) -> bool
 pub fn is_divisors(divisors: Code) -> bool
     ensures { λ r. ⌜ r ≡ from-to 1 8 divisors ⌝ }
 {
-    divisors >= 1 && divisors <= MOST_TURNS
+    divisors >= 1 && divisors <= MOST_DIVISORS
 }
 
 // The figures of a linear rail, its highest level too.

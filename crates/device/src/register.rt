@@ -37,7 +37,9 @@ impl Register {
         ensures code { λ _. ⌜ now (self .exit) .code ≡ code ⌝ }
         ensures tally { λ _. ⌜ now (self .exit) .tally ≡ counted-on (now (self .entry) .tally) ⌝ }
     {
-        self.code = code;
-        self.tally = self.tally.saturating_add(1);
+        *self = Register {
+            code,
+            tally: self.tally.saturating_add(1),
+        };
     }
 }

@@ -4,9 +4,8 @@ ghost use Rattle.device.specs.Device.{Written, Willing};
 ghost use Rattle.device.specs.Figures.{linear, Made};
 ghost use Rattle.device.specs.Supplied.{linear-figures, linear-model};
 use super::super::Code;
-use super::super::MOST_CODES;
-use super::super::TOP_LEVEL;
 use super::super::answers::Answer;
+use super::super::limits::is_linear;
 use super::super::register::Register;
 use super::super::regulator::Regulator;
 use super::LinearRail;
@@ -18,16 +17,7 @@ impl LinearRail {
     pub fn new(lowest: u32, step: u32, count: Code) -> Result<LinearRail, Fault>
         ensures { λ r. ⌜ Made linear-figures linear-model (linear lowest step count) r ⌝ }
     {
-        if lowest < 1 || lowest > TOP_LEVEL {
-            return Err(Fault::table(Refusal::OutOfRange, 0));
-        }
-        if step < 1 || step > TOP_LEVEL {
-            return Err(Fault::table(Refusal::OutOfRange, 0));
-        }
-        if count < 1 || count > MOST_CODES {
-            return Err(Fault::table(Refusal::OutOfRange, 0));
-        }
-        if lowest + (u32::from(count) - 1) * step > TOP_LEVEL {
+        if !is_linear(lowest, step, count) {
             return Err(Fault::table(Refusal::OutOfRange, 0));
         }
         Ok(LinearRail {
@@ -66,7 +56,7 @@ pub impl Regulator for LinearRail as LinearRegulator {
         ensures { λ r. ⌜ Written (linear-model (now (self .entry))) code r (linear-model (now (self .exit))) ⌝ }
         ensures willing { λ r. ⌜ Willing (linear-model (now (self .entry))) code r ⌝ }
     {
-        if code < self.count && code != self.register.code() {
+        if code < self.count && code != self.code() {
             self.register.put(code);
             Answer::Done
         } else {
