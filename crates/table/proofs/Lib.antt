@@ -1,8 +1,10 @@
+pub mod Admits
 pub mod Bodies
 pub mod Exact
 pub mod Frames
 pub mod Fronts
 pub mod Going
 pub mod LittleEndian
+pub mod PartKinds
 pub mod Walks
 pub mod Words

@@ -2,9 +2,10 @@
 use Prim.Native.Nat.{ℕ, _≤_, _<_}
 use mathlib.Core.Path.{_≡_, refl, sym, ap, _∙_}
 use mathlib.Core.Bool.{Bool, true, false, _&&_}
-use mathlib.Core.List.{List, [], _∷_}
+use mathlib.Core.List.{List, [], _∷_, _++_, append-assoc}
 use lib.ListN.{length, drop}
 use native.Mathlib.Omega.{arith}
+use Rattle.std.proofs.shelf.Lists.{append-nil}
 use Rattle.device.specs.Figures.{level-ok, levels-ok}
 use Rattle.table.specs.Bytes.{field, words}
 
@@ -34,3 +35,15 @@ levels-stop bs all h e was = sym (ap levels-ok (words-more bs h) ∙ ap (λ t. t
 
 pub levels-end : (bs : List ℕ) (all : Bool) → length bs < 4 → levels-ok (words bs) ≡ all → true ≡ all
 levels-end bs all h was = sym (ap levels-ok (words-none bs h)) ∙ was
+
+-- one number more in a list of them
+pub listed-more : (xs ys bs rest all : List ℕ) → 4 ≤ length bs → xs ++ words bs ≡ all → ys ≡ xs ++ field bs 0 4 ∷ [] → rest ≡ drop 4 bs → ys ++ words rest ≡ all
+listed-more xs ys bs rest all h was pushed cut =
+    ap (λ q. ys ++ words q) cut
+    ∙ ap (λ q. q ++ words (drop 4 bs)) pushed
+    ∙ append-assoc xs (field bs 0 4 ∷ []) (words (drop 4 bs))
+    ∙ ap (λ q. xs ++ q) (sym (words-more bs h))
+    ∙ was
+
+pub listed-all : (xs bs all : List ℕ) → length bs < 4 → xs ++ words bs ≡ all → xs ≡ all
+listed-all xs bs all h was = sym (append-nil xs) ∙ ap (λ q. xs ++ q) (sym (words-none bs h)) ∙ was
