@@ -5,6 +5,7 @@ pub mod Frames
 pub mod Fronts
 pub mod Going
 pub mod LittleEndian
+pub mod OnTheWay
 pub mod PartKinds
 pub mod Walks
 pub mod Words
