@@ -59,7 +59,7 @@ module _ (l : Lists) (f : Figures) (n states count : ℕ) (few : n ≡ length (l
       let s : ltb (length (l .parts)) 6 ≡ true = lt-ltb (length (l .parts)) 6 (omega arith) in
       let t : leb (product (l .parts) * codes-of f) 4096 ≡ true = le-leb (product (l .parts) * codes-of f) 4096 (omega arith) in
       let back : Ok (record { parts = l .parts ++ f ∷ []; rules = l .rules }) ≡ Ok (record { parts = ps; rules = l .rules }) =
-            ap (λ (qs : List Figures). Ok (record { parts = qs; rules = l .rules })) (sym e) in
+      ap (λ (qs : List Figures). Ok (record { parts = qs; rules = l .rules })) (sym e) in
       simp (s, t) back
 
   pub product-taken : (ps : List Figures) → ps ≡ l .parts ++ f ∷ [] → states * count ≡ product ps

@@ -28,12 +28,15 @@ pub record Going (bs table : List ℕ) (ps : List Placed) (number offset : ℕ) 
   pub way : On-the-way keep [] bs table (map placed-record ps) number offset
 
 placed-more : (ps : List Placed) (p : Placed) (number offset : ℕ) → Placed-from number offset ps
-  → p .number ≡ number + length ps → p .offset ≡ offset + length (joined encode (map placed-record ps))
-  → Placed-from number offset (ps ++ p ∷ [])
+    → p .number ≡ number + length ps → p .offset ≡ offset + length (joined encode (map placed-record ps))
+    → Placed-from number offset (ps ++ p ∷ [])
 placed-more [] p number offset h n o = (omega arith, omega arith, tt)
-placed-more (q ∷ ps) p number offset h n o =
-    (h .0, h .1, placed-more ps p (number + 1) (offset + length (encode (placed-record q))) (h .2) (omega arith)
-      (omega (arith, length-append (encode (placed-record q)) (joined encode (map placed-record ps)))))
+placed-more (q ∷ ps) p number offset h n o = (
+  h .0,
+  h .1,
+  placed-more ps p (number + 1) (offset + length (encode (placed-record q))) (h .2) (omega arith)
+      (omega (arith, length-append (encode (placed-record q)) (joined encode (map placed-record ps)))),
+)
 
 -- no record yet
 pub going-none : (bs table : List ℕ) (ps : List Placed) (n at : ℕ) → table ≡ bs → ps ≡ [] → n ≡ 0 → at ≡ 0 → Going bs table ps n at
@@ -47,7 +50,7 @@ going-none bs table ps n at e none first begun =
     }
 
 one-more : (bs table table′ : List ℕ) (ps : List Placed) (p : Placed) (n at n′ at′ : ℕ) → Going bs table ps n at → table′ ≡ table
-  → Here bs p n at n′ at′ → Going bs table′ (ps ++ p ∷ []) n′ at′
+    → Here bs p n at n′ at′ → Going bs table′ (ps ++ p ∷ []) n′ at′
 one-more bs table table′ ps p n at n′ at′ g e h =
     let rs : List Rec = map placed-record ps in
     let pushed : map placed-record (ps ++ p ∷ []) ≡ rs ++ placed-record p ∷ [] = map-push placed-record ps p in
@@ -61,7 +64,7 @@ one-more bs table table′ ps p n at n′ at′ g e h =
 
 -- one record more
 pub going-more : (bs table table′ : List ℕ) (ps ps′ : List Placed) (p : Placed) (n at n′ at′ : ℕ) → Going bs table ps n at → table′ ≡ table
-  → Here bs p n at n′ at′ → ps′ ≡ ps ++ p ∷ [] → Going bs table′ ps′ n′ at′
+    → Here bs p n at n′ at′ → ps′ ≡ ps ++ p ∷ [] → Going bs table′ ps′ n′ at′
 going-more bs table table′ ps ps′ p n at n′ at′ g e h pushed =
     subst (λ (qs : List Placed). Going bs table′ qs n′ at′) (sym pushed) (one-more bs table table′ ps p n at n′ at′ g e h)
 

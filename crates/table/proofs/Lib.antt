@@ -1,6 +1,7 @@
 pub mod Admits
 pub mod Bodies
 pub mod Exact
+pub mod Fitting
 pub mod Frames
 pub mod Fronts
 pub mod Going
@@ -8,4 +9,5 @@ pub mod LittleEndian
 pub mod OnTheWay
 pub mod PartKinds
 pub mod Walks
+pub mod Whole
 pub mod Words

@@ -50,6 +50,10 @@ here bs table o p n at n′ at′ b same x is =
 pub here-less : (bs table table′ : List ℕ) (p : Placed) (n at n′ at′ : ℕ) → Here bs p n at n′ at′ → table′ ≡ table → at′ ≤ length table′ → length table′ - at′ < length table - at
 here-less bs table table′ p n at n′ at′ h e inside = omega (arith, ap length e, h .moved, h .begins .some)
 
+-- at the end the reader stays where it is
+pub end-stays : (table : List ℕ) (o : Option Placed) (n at n′ at′ : ℕ) → Next table n at (Ok o) n′ at′ → o ≡ None → n′ ≡ n
+end-stays table o n at n′ at′ x is = let y : Next table n at (Ok None) n′ at′ = subst (λ (q : Option Placed). Next table n at (Ok q) n′ at′) is x in y .1
+
 -- the reader reads these bytes, and the reading from here on gives what the whole reading gives
 pub record On-the-way {S : Type 0} (add : S → Rec → Result S Refusal) (start : S) (bs table : List ℕ) (s : S) (number offset : ℕ) : Type 0 where
   pub same : table ≡ bs
@@ -62,7 +66,7 @@ module _ {S : Type 0} (add : S → Rec → Result S Refusal) (start : S) (bs tab
 
   -- one record more
   pub way-more : (table′ : List ℕ) (s t : S) (p : Placed) (n at n′ at′ : ℕ) → On-the-way add start bs table s n at → table′ ≡ table
-    → Here bs p n at n′ at′ → add s (placed-record p) ≡ Ok t → On-the-way add start bs table′ t n′ at′
+      → Here bs p n at n′ at′ → add s (placed-record p) ≡ Ok t → On-the-way add start bs table′ t n′ at′
   way-more table′ s t p n at n′ at′ w e h added =
       let size : ℕ = h .size in
       let behind : drop size (drop at bs) ≡ drop at′ bs = drop-drop size at bs ∙ ap (λ m. drop m bs) (sym (h .moved)) in
@@ -81,19 +85,21 @@ module _ {S : Type 0} (add : S → Rec → Result S Refusal) (start : S) (bs tab
 
   -- a fault at the cursor
   pub way-fault : (s : S) (n at n′ at′ : ℕ) (f : Fault) → On-the-way add start bs table s n at → Next table n at (Err f) n′ at′
-    → (walk add 0 0 start bs ≡ sent-back (f .refusal) (f .place)) × (f ≡ table-fault (f .refusal) (f .place))
+      → (walk add 0 0 start bs ≡ sent-back (f .refusal) (f .place)) × (f ≡ table-fault (f .refusal) (f .place))
   way-fault s n at n′ at′ f w x =
       let e : front (drop at bs) ≡ refused (f .refusal) = subst (λ t. front (drop at t) ≡ refused (f .refusal)) (w .same) (x .0) in
-      let place : f .place ≡ n = ap (λ (q : Fault). q .place) (x .1) in
-      ( sym (w .rest) ∙ walk-refused add n s (drop at bs) (f .refusal) e ∙ ap (sent-back (f .refusal)) (sym place)
-      , x .1 ∙ ap (table-fault (f .refusal)) (sym place) )
+      let place : f .place ≡ n = ap (λ (q : Fault). q .place) (x .1) in (
+        sym (w .rest) ∙ walk-refused add n s (drop at bs) (f .refusal) e ∙ ap (sent-back (f .refusal)) (sym place),
+        x .1 ∙ ap (table-fault (f .refusal)) (sym place),
+      )
 
   -- a record that is not added
   pub way-not-added : (s : S) (p : Placed) (n at n′ at′ : ℕ) (f : Fault) → On-the-way add start bs table s n at → Here bs p n at n′ at′
-    → add s (placed-record p) ≡ Err (f .refusal) → f ≡ table-fault (f .refusal) (p .number)
-    → (walk add 0 0 start bs ≡ sent-back (f .refusal) (f .place)) × (f ≡ table-fault (f .refusal) (f .place))
+      → add s (placed-record p) ≡ Err (f .refusal) → f ≡ table-fault (f .refusal) (p .number)
+      → (walk add 0 0 start bs ≡ sent-back (f .refusal) (f .place)) × (f ≡ table-fault (f .refusal) (f .place))
   way-not-added s p n at n′ at′ f w h added fault =
       let number : f .place ≡ p .number = ap (λ (q : Fault). q .place) fault in
-      let place : f .place ≡ n = number ∙ h .number in
-      ( sym (w .rest) ∙ walk-not-added add n s (drop at bs) (placed-record p) (h .size) (f .refusal) (h .front-is) added ∙ ap (sent-back (f .refusal)) (sym place)
-      , fault ∙ ap (table-fault (f .refusal)) (sym number) )
+      let place : f .place ≡ n = number ∙ h .number in (
+        sym (w .rest) ∙ walk-not-added add n s (drop at bs) (placed-record p) (h .size) (f .refusal) (h .front-is) added ∙ ap (sent-back (f .refusal)) (sym place),
+        fault ∙ ap (table-fault (f .refusal)) (sym number),
+      )

@@ -8,10 +8,9 @@ ghost use Rattle.table.specs.Lists.{product};
 use super::rule::Rule;
 use device::Part;
 
-
 pub mod admit;
 pub mod entry;
-
+pub mod read;
 
 #[derive(Drop)]
 pub struct Listing {

@@ -49,9 +49,15 @@ pub(crate) fn make(heap: Global, record: Record<'_>) -> Result<Entry, Fault>
     ensures { λ r. ⌜ Cases r (λ e. Is e (meant («record» .entry))) (λ f. f ≡ memory-fault) ⌝ }
 {
     let part = match record {
-        Record::LinearRail { lowest, step, count } => Part::Linear(LinearRail::new(lowest, step, Code::from(count))?),
+        Record::LinearRail {
+            lowest,
+            step,
+            count,
+        } => Part::Linear(LinearRail::new(lowest, step, Code::from(count))?),
         Record::TableRail { levels } => Part::Listed(TableRail::new(listed(heap, levels)?)?),
-        Record::DividerClock { parent, count } => Part::Divider(DividerClock::new(parent, Code::from(count))?),
+        Record::DividerClock { parent, count } => Part::Divider(
+            DividerClock::new(parent, Code::from(count))?,
+        ),
         Record::TreeClock { divisors, parents } => {
             Part::Tree(TreeClock::new(Code::from(divisors), listed(heap, parents)?)?)
         }

@@ -21,6 +21,13 @@ impl<'a> Reader<'a> {
         }
     }
 
+    // How many records were read.
+    pub fn number(&self) -> usize
+        ensures { λ r. ⌜ r ≡ now (self .entry) .number ⌝ }
+    {
+        self.number
+    }
+
     // The next record, none at the end, or the fault that it has; a fault leaves the reader where it is.
     pub fn next(&mut self) -> Result<Option<Placed<'a>>, Fault>
         ensures bytes { λ _. ⌜ now (now (self .exit) .table) ≡ now (now (self .entry) .table) ⌝ }

@@ -16,7 +16,7 @@ returns-in-Break-one c =
     let was = c .records .reader in
     let after = c .next .last .self in
     let back = going-fault (c .args .table .now) (was .table .now) (vec-items (c .records .all)) (was .number) (was .at) (after .number) (after .at)
-          (c .in-Break-one .field-0 .0) (c .records .inv) (c .in-Break-one .ensures tt .read) in
+    (c .in-Break-one .field-0 .0) (c .records .inv) (c .in-Break-one .ensures tt .read) in
     rw (p .1, p .2) (record { read = back; exact = only-memory (c .args .table .now) (c .in-Break-one .field-0 .0) back })
 
 pub records-less : need.records-less
@@ -24,7 +24,7 @@ records-less c =
     let was = c .records .reader in
     let after = c .next .last .self in
     let at = here (c .args .table .now) (was .table .now) (c .in-Continue-one .field-0) (c .in-Some .one) (was .number) (was .at) (after .number) (after .at)
-          (bytes-from (c .args .table .now) (c .typed .table)) (c .records .inv .way .same) (c .in-Continue-one .ensures tt .read) (c .in-Some .is) in
+    (bytes-from (c .args .table .now) (c .typed .table)) (c .records .inv .way .same) (c .in-Continue-one .ensures tt .read) (c .in-Some .is) in
     here-less (c .args .table .now) (was .table .now) (after .table .now) (c .in-Some .one) (was .number) (was .at) (after .number) (after .at) at (c .in-Continue-one .ensures tt .bytes) (after .inside)
 
 pub records-again : need.records-again
@@ -32,7 +32,7 @@ records-again c =
     let was = c .records .reader in
     let after = c .next .last .self in
     let at = here (c .args .table .now) (was .table .now) (c .in-Continue-one .field-0) (c .in-Some .one) (was .number) (was .at) (after .number) (after .at)
-          (bytes-from (c .args .table .now) (c .typed .table)) (c .records .inv .way .same) (c .in-Continue-one .ensures tt .read) (c .in-Some .is) in
+    (bytes-from (c .args .table .now) (c .typed .table)) (c .records .inv .way .same) (c .in-Continue-one .ensures tt .read) (c .in-Some .is) in
     going-more (c .args .table .now) (was .table .now) (after .table .now) (vec-items (c .records .all)) (vec-items (c .push .last .self)) (c .in-Some .one)
     (was .number) (was .at) (after .number) (after .at) (c .records .inv) (c .in-Continue-one .ensures tt .bytes) at (c .in-Continue-push .ensures tt .items)
 
@@ -41,5 +41,5 @@ returns c =
     let was = c .records .reader in
     let after = c .next .last .self in
     let read = going-all (c .args .table .now) (was .table .now) (vec-items (c .records .all)) (c .in-Continue-one .field-0)
-          (was .number) (was .at) (after .number) (after .at) (c .records .inv) (c .in-Continue-one .ensures tt .read) (c .in-rest .is) in
+    (was .number) (was .at) (after .number) (after .at) (c .records .inv) (c .in-Continue-one .ensures tt .read) (c .in-rest .is) in
     record { read = read; exact = exactly (c .args .table .now) (vec-items (c .records .all)) (bytes-from (c .args .table .now) (c .typed .table)) read }
