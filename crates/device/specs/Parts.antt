@@ -1,9 +1,11 @@
 -- A part of a board: one of the supplied devices.
 --   part-figures   the figures that a part was made from
+--   part-register  its present code and its tally
 --   part-model     the device that a part is
 use Rattle.device.specs.Device.{Device}
-use Rattle.device.specs.Figures.{Figures}
-use Rattle.device.specs.Supplied.{linear-figures, table-figures, divider-figures, tree-figures, linear-model, table-model, divider-model, tree-model}
+use Rattle.device.specs.Figures.{Figures, device-of}
+use Rattle.device.specs.Supplied.{linear-figures, table-figures, divider-figures, tree-figures}
+use Rattle.device.specs.declared.register.Register.{Register}
 use Rattle.device.specs.declared.part.Part.{Part}
 use Rattle.device.specs.declared.part.Part.the-variants.{Linear, Listed, Divider, Tree}
 
@@ -14,9 +16,13 @@ part-figures (Listed d) = table-figures d
 part-figures (Divider d) = divider-figures d
 part-figures (Tree d) = tree-figures d
 
+-- the register of a part: its present code and its tally
+abbrev pub part-register : Part → Register
+part-register (Linear d) = d .register
+part-register (Listed d) = d .register
+part-register (Divider d) = d .register
+part-register (Tree d) = d .register
+
 -- the device that a part is
 abbrev pub part-model : Part → Device
-part-model (Linear d) = linear-model d
-part-model (Listed d) = table-model d
-part-model (Divider d) = divider-model d
-part-model (Tree d) = tree-model d
+part-model p = device-of (part-figures p) (part-register p .code) (part-register p .tally)

@@ -17,18 +17,8 @@ use Rattle.answer.specs.declared.fault.Fault.{Fault}
 use Rattle.answer.specs.Faults.{table-fault}
 use Rattle.answer.specs.declared.refusal.Refusal.the-variants.{TooMany}
 use Rattle.device.specs.Figures.{Figures, codes-of}
-use Rattle.device.specs.Parts.{part-figures, part-model}
-use Rattle.device.specs.declared.part.Part.{Part}
-use Rattle.device.specs.declared.part.Part.the-variants.{Linear, Listed, Divider, Tree}
 use Rattle.table.specs.Listed.{Not-added}
 use Rattle.table.specs.Lists.{Lists, product, admit-part}
-
--- the count of a part is that of its figures
-pub count-codes : (p : Part) → part-model p .count ≡ codes-of (part-figures p)
-count-codes (Linear d) = refl
-count-codes (Listed d) = refl
-count-codes (Divider d) = refl
-count-codes (Tree d) = refl
 
 -- a record that is refused
 pub not-added : (v : Result Lists Refusal) (why : Refusal) (number : ℕ) (f : Fault) → f ≡ table-fault why number → v ≡ Err why → Not-added v number f

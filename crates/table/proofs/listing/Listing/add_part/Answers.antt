@@ -12,7 +12,7 @@ use Rattle.device.specs.Device.{Fresh}
 use Rattle.device.specs.Figures.{codes-of}
 use Rattle.device.specs.Parts.{part-figures, part-model}
 use Rattle.table.specs.Listed.{lists-of}
-use Rattle.table.proofs.Admits.{count-codes, not-added, too-many, taken, product-taken}
+use Rattle.table.proofs.Admits.{not-added, too-many, taken, product-taken}
 use Rattle.table.proofs.listing.Listing.add_part.Needs as need
 
 pub returns-then-len-ge-MOST-PARTS : need.returns-then-len-ge-MOST-PARTS
@@ -20,7 +20,7 @@ returns-then-len-ge-MOST-PARTS c =
     let l = c .args .self .now in
     let v = l .parts in
     let n : c .len .result ≡ length (lists-of l .parts) = c .len .ensures ∙ omega (arith, v .ok .0, length-map (vec-items v) part-figures) in
-    let count : c .from .result ≡ codes-of (part-figures (c .args .part)) = c .from .ensures ∙ c .count .ensures ∙ count-codes (c .args .part) in
+    let count : c .from .result ≡ codes-of (part-figures (c .args .part)) = c .from .ensures ∙ c .count .ensures in
     let why = too-many (lists-of l) (part-figures (c .args .part)) (c .len .result) (l .states) (c .from .result) n (l .product) count (c .then-len-ge-MOST-PARTS .either) in
     record { added = not-added _ TooMany (c .args .number) (c .table .result) (c .table .ensures) why; fresh = λ all _. all }
 
@@ -29,7 +29,7 @@ ghost-self-2 c =
     let l = c .args .self .now in
     let v = l .parts in
     let n : c .len .result ≡ length (lists-of l .parts) = c .len .ensures ∙ omega (arith, v .ok .0, length-map (vec-items v) part-figures) in
-    let count : c .from .result ≡ codes-of (part-figures (c .args .part)) = c .from .ensures ∙ c .count .ensures ∙ count-codes (c .args .part) in
+    let count : c .from .result ≡ codes-of (part-figures (c .args .part)) = c .from .ensures ∙ c .count .ensures in
     let pushed : map part-figures (vec-items (c .push .last .self)) ≡ lists-of l .parts ++ part-figures (c .args .part) ∷ [] =
     ap (map part-figures) (c .in-Continue-push .ensures tt .items) ∙ map-push part-figures (vec-items v) (c .args .part) in
     (omega (arith, c .in-Continue-push .ensures tt .len), (l .ruled, (product-taken (lists-of l) (part-figures (c .args .part)) (c .len .result) (l .states) (c .from .result) n (l .product) count _ pushed, (omega arith, tt))))
@@ -39,7 +39,7 @@ returns c =
     let l = c .args .self .now in
     let v = l .parts in
     let n : c .len .result ≡ length (lists-of l .parts) = c .len .ensures ∙ omega (arith, v .ok .0, length-map (vec-items v) part-figures) in
-    let count : c .from .result ≡ codes-of (part-figures (c .args .part)) = c .from .ensures ∙ c .count .ensures ∙ count-codes (c .args .part) in
+    let count : c .from .result ≡ codes-of (part-figures (c .args .part)) = c .from .ensures ∙ c .count .ensures in
     let items = c .in-Continue-push .ensures tt .items in
     let pushed : map part-figures (vec-items (c .push .last .self)) ≡ lists-of l .parts ++ part-figures (c .args .part) ∷ [] =
     ap (map part-figures) items ∙ map-push part-figures (vec-items v) (c .args .part) in

@@ -1,0 +1,62 @@
+// What `levels` prints: every code of every part with its level, and every rule.
+ghost use mathlib.Core.Path.{_≡_};
+ghost use mathlib.Core.List.{_++_, map};
+ghost use Rattle.std.specs.Of.Vec.{vec-items};
+ghost use Rattle.std.specs.Vec.{made};
+ghost use Rattle.bench.specs.Listing.{code-lines, part-lines, Printed};
+ghost use Rattle.bench.specs.declared.line.Line.the-variants.{Rule as rule-line};
+ghost use Rattle.device.specs.Parts.{part-figures};
+ghost use Rattle.table.specs.Listed.{lists-of};
+use super::line::Line;
+use device::Part;
+use std::alloc::AllocError;
+use std::alloc::Global;
+use table::Listing;
+
+// A line for each code of a part.
+fn add_codes(lines: &mut Vec<Line>, number: u8, part: &Part) -> Result<(), AllocError>
+    ensures { λ r. ⌜ made r (λ _. vec-items (now (lines .exit)) ≡ vec-items (now (lines .entry)) ++ code-lines number (part-figures (now (part .entry)))) ⌝ }
+{
+    let kind = part.kind();
+    'codes: for code in 0..part.count() {
+        lines.push(Line::Level { kind, part: number, code, level: part.level(code) })?;
+    }
+    Ok(())
+}
+
+// The lines of all parts.
+fn add_parts(lines: &mut Vec<Line>, listing: &Listing) -> Result<(), AllocError>
+    ensures { λ r. ⌜ made r (λ _. vec-items (now (lines .exit)) ≡ vec-items (now (lines .entry)) ++ part-lines 0 (lists-of (now (listing .entry)) .parts)) ⌝ }
+{
+    let parts = listing.parts();
+    'parts: for (number, part) in parts.iter().enumerate() {
+        add_codes(lines, number as u8, part)?;
+    }
+    Ok(())
+}
+
+// A line for each rule.
+fn add_rules(lines: &mut Vec<Line>, listing: &Listing) -> Result<(), AllocError>
+    ensures { λ r. ⌜ made r (λ _. vec-items (now (lines .exit)) ≡ vec-items (now (lines .entry)) ++ map rule-line (lists-of (now (listing .entry)) .rules)) ⌝ }
+{
+    let rules = listing.rules();
+    'rules: for rule in rules {
+        lines.push(Line::Rule(*rule))?;
+    }
+    Ok(())
+}
+
+// The lines for a table: its parts' codes with their levels and then its rules, or its refusal alone.
+pub fn levels(heap: Global, table: &[u8]) -> Result<Vec<Line>, AllocError>
+    ensures { λ r. ⌜ made r (λ v. Printed (now (table .entry)) (vec-items v)) ⌝ }
+{
+    let mut lines = Vec::new(heap);
+    match Listing::read(heap, table) {
+        Ok(listing) => {
+            add_parts(&mut lines, &listing)?;
+            add_rules(&mut lines, &listing)?;
+        }
+        Err(fault) => lines.push(Line::Refused(fault.refusal))?,
+    }
+    Ok(lines)
+}
