@@ -44,7 +44,7 @@ pub impl From<AllocError> for Fault as FaultFromAlloc {
     ghost converts = { λ _ r. r ≡ memory-fault };
 
     fn from(_e: AllocError) -> Fault {
-        Fault::memory()
+        Self::memory()
     }
 }
 

@@ -19,7 +19,12 @@ fn add_codes(lines: &mut Vec<Line>, number: u8, part: &Part) -> Result<(), Alloc
 {
     let kind = part.kind();
     'codes: for code in 0..part.count() {
-        lines.push(Line::Level { kind, part: number, code, level: part.level(code) })?;
+        lines.push(Line::Level {
+            kind,
+            part: number,
+            code,
+            level: part.level(code),
+        })?;
     }
     Ok(())
 }

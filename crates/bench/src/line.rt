@@ -16,7 +16,12 @@ use table::Rule;
 #[derive(Clone, Copy)]
 pub enum Line {
     // A code of a part, and the level that it stands for.
-    Level { kind: Kind, part: u8, code: Code, level: u32 },
+    Level {
+        kind: Kind,
+        part: u8,
+        code: Code,
+        level: u32,
+    },
     // A rule with its figures.
     Rule(Rule),
     // A refusal, by its number.
@@ -39,16 +44,36 @@ pub impl fmt::Display for Line as LineDisplay {
 
     fn fmt<W: fmt::Write>(&self, f: &mut fmt::Formatter<W>) -> fmt::Result {
         match self {
-            Line::Level { kind, part, code, level } => {
+            Line::Level {
+                kind,
+                part,
+                code,
+                level,
+            } => {
                 let word = word(kind);
                 write!(f, "{word} {part} code {code} at {level}")
             }
             Line::Rule(rule) => match rule {
-                Rule::Window { rail, floor, ceiling } => write!(f, "window rail {rail} from {floor} to {ceiling}"),
-                Rule::Spread { rail, other, most } => write!(f, "spread rail {rail} rail {other} at most {most}"),
+                Rule::Window {
+                    rail,
+                    floor,
+                    ceiling,
+                } => write!(f, "window rail {rail} from {floor} to {ceiling}"),
+                Rule::Spread { rail, other, most } => write!(
+                    f,
+                    "spread rail {rail} rail {other} at most {most}"
+                ),
                 Rule::Step { rail, most } => write!(f, "step rail {rail} at most {most}"),
-                Rule::Need { clock, above, rail, least } => {
-                    write!(f, "need clock {clock} above {above} rail {rail} at least {least}")
+                Rule::Need {
+                    clock,
+                    above,
+                    rail,
+                    least,
+                } => {
+                    write!(
+                        f,
+                        "need clock {clock} above {above} rail {rail} at least {least}"
+                    )
                 }
                 Rule::Cap { clock, most } => write!(f, "cap clock {clock} at most {most}"),
             },

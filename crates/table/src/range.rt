@@ -41,24 +41,11 @@ fn is_rule(rule: &Rule) -> bool
     ensures { λ r. ⌜ r ≡ rule-ok (now (rule .entry)) ⌝ }
 {
     match rule {
-        Rule::Window {
-            rail: _,
-            floor,
-            ceiling,
-        } => *floor <= *ceiling && is_figure(*ceiling),
-        Rule::Spread {
-            rail: _,
-            other: _,
-            most,
-        } => is_figure(*most),
-        Rule::Step { rail: _, most } => is_figure(*most),
-        Rule::Need {
-            clock: _,
-            above,
-            rail: _,
-            least,
-        } => is_figure(*above) && is_figure(*least),
-        Rule::Cap { clock: _, most } => is_figure(*most),
+        Rule::Window { floor, ceiling, .. } => *floor <= *ceiling && is_figure(*ceiling),
+        Rule::Spread { most, .. } => is_figure(*most),
+        Rule::Step { most, .. } => is_figure(*most),
+        Rule::Need { above, least, .. } => is_figure(*above) && is_figure(*least),
+        Rule::Cap { most, .. } => is_figure(*most),
     }
 }
 

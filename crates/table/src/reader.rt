@@ -4,6 +4,7 @@ ghost use lib.ListN.{length};
 ghost use denote.Ref.{now as behind};
 
 pub mod next;
+pub mod start;
 
 #[derive(Drop)]
 pub struct Reader<'a> {

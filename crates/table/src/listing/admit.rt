@@ -15,11 +15,13 @@ use answer::Refusal;
 use device::Kind;
 use device::Part;
 
-// A board has at most this many parts, rules and states.
+// A board has at most this many parts.
 pub const MOST_PARTS: usize = 6;
 
+// A board has at most this many rules.
 pub const MOST_RULES: usize = 24;
 
+// A board has at most this many states.
 pub const MOST_STATES: u32 = 4_096;
 
 impl Listing {
@@ -54,24 +56,13 @@ impl Listing {
         ensures { λ r. ⌜ r ≡ names-ok (lists-of (now (self .entry)) .parts) (now (rule .entry)) ⌝ }
     {
         match rule {
-            Rule::Window {
-                rail,
-                floor: _,
-                ceiling: _,
-            } => self.has_rail(*rail),
-            Rule::Spread {
-                rail,
-                other,
-                most: _,
-            } => self.has_rail(*rail) && self.has_rail(*other) && *rail != *other,
-            Rule::Step { rail, most: _ } => self.has_rail(*rail),
-            Rule::Need {
-                clock,
-                above: _,
-                rail,
-                least: _,
-            } => self.has_clock(*clock) && self.has_rail(*rail),
-            Rule::Cap { clock, most: _ } => self.has_clock(*clock),
+            Rule::Window { rail, .. } => self.has_rail(*rail),
+            Rule::Spread { rail, other, .. } => self.has_rail(*rail)
+                && self.has_rail(*other)
+                && *rail != *other,
+            Rule::Step { rail, .. } => self.has_rail(*rail),
+            Rule::Need { clock, rail, .. } => self.has_clock(*clock) && self.has_rail(*rail),
+            Rule::Cap { clock, .. } => self.has_clock(*clock),
         }
     }
 

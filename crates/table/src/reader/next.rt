@@ -8,26 +8,6 @@ use super::Reader;
 use answer::Fault;
 
 impl<'a> Reader<'a> {
-    // A reader at the front of a table.
-    pub fn new(table: &'a [u8]) -> Reader<'a>
-        ensures bytes { λ r. ⌜ now (r .table) ≡ now (table .entry) ⌝ }
-        ensures cursor { λ r. ⌜ r .at ≡ 0 ⌝ }
-        ensures number { λ r. ⌜ r .number ≡ 0 ⌝ }
-    {
-        Reader {
-            table,
-            at: 0,
-            number: 0,
-        }
-    }
-
-    // How many records were read.
-    pub fn number(&self) -> usize
-        ensures { λ r. ⌜ r ≡ now (self .entry) .number ⌝ }
-    {
-        self.number
-    }
-
     // The next record, none at the end, or the fault that it has; a fault leaves the reader where it is.
     pub fn next(&mut self) -> Result<Option<Placed<'a>>, Fault>
         ensures bytes { λ _. ⌜ now (now (self .exit) .table) ≡ now (now (self .entry) .table) ⌝ }
