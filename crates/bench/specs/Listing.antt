@@ -10,7 +10,7 @@ use mathlib.Core.List.{List, [], _∷_, _++_, map}
 use mathlib.Core.Logic.{_⊎_}
 use Rattle.answer.specs.declared.refusal.Refusal.the-variants.{NoMemory}
 use Rattle.device.specs.Figures.{Figures, kind-of, codes-of, level-of}
-use Rattle.table.specs.Lists.{Lists, listing}
+use Rattle.listing.specs.Lists.{Lists, listing}
 use Rattle.table.specs.Reading.{Verdict, accepted, sent-back}
 use Rattle.bench.specs.declared.line.Line.{Line}
 use Rattle.bench.specs.declared.line.Line.the-variants.{Level, Rule, Refused}

@@ -5,13 +5,13 @@ ghost use Rattle.std.specs.Of.Vec.{vec-items};
 ghost use Rattle.std.specs.Vec.{made};
 ghost use Rattle.bench.specs.Listing.{code-lines, part-lines, Printed};
 ghost use Rattle.bench.specs.declared.line.Line.the-variants.{Rule as rule-line};
-ghost use Rattle.device.specs.Parts.{part-figures};
-ghost use Rattle.table.specs.Listed.{lists-of};
+ghost use Rattle.listing.specs.Parts.{part-figures};
+ghost use Rattle.listing.specs.Listed.{lists-of};
 use super::line::Line;
-use device::Part;
+use listing::Listing;
+use listing::Part;
 use std::alloc::AllocError;
 use std::alloc::Global;
-use table::Listing;
 
 // A line for each code of a part.
 fn add_codes(lines: &mut Vec<Line>, number: u8, part: &Part) -> Result<(), AllocError>

@@ -5,9 +5,9 @@ mod cases;
 mod tests {
     use super::cases::CASES;
     use super::cases::WORKED;
+    use listing::Listing;
     use std::alloc::Global;
     use std::test::*;
-    use table::Listing;
 
     // The number and the place of a table's refusal, 0 and 0 where it is accepted.
     fn verdict(heap: Global, table: &[u8]) -> (u8, usize) {

@@ -2,9 +2,7 @@
 pub mod answers;
 pub mod clock;
 pub mod kind;
-pub mod kinds;
 pub mod limits;
-pub mod part;
 pub mod register;
 pub mod regulator;
 pub mod seek;
@@ -12,15 +10,6 @@ pub mod seek;
 pub use answers::Answer;
 pub use clock::Clock;
 pub use kind::Kind;
-pub use kinds::DividerClock;
-pub use kinds::LinearRail;
-pub use kinds::TableRail;
-pub use kinds::TreeClock;
-pub use kinds::divider::DividerAsClock;
-pub use kinds::linear::LinearRegulator;
-pub use kinds::listed::TableRegulator;
-pub use kinds::tree::TreeAsClock;
-pub use part::Part;
 pub use regulator::Regulator;
 
 // A device's selector, counted from 0.

@@ -1,13 +1,9 @@
-pub mod Admits
 pub mod Bodies
 pub mod Exact
-pub mod Fitting
 pub mod Frames
 pub mod Fronts
 pub mod Going
 pub mod LittleEndian
 pub mod OnTheWay
-pub mod PartKinds
 pub mod Walks
-pub mod Whole
 pub mod Words

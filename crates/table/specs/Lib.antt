@@ -1,9 +1,6 @@
 pub mod Answered
 pub mod Bytes
-pub mod Entries
 pub mod Kinds
-pub mod Lists
-pub mod Listed
 pub mod Meaning
 pub mod Reading
 pub mod Records

@@ -2,7 +2,11 @@
 ghost use mathlib.Core.Path.{_≡_};
 ghost use Prim.Native.Nat.{_+_, _≤_};
 ghost use lib.ListN.{length, drop};
-ghost use Rattle.table.specs.Bytes.{field};
+ghost use Rattle.std.specs.Of.Vec.{vec-items};
+ghost use Rattle.std.specs.Vec.{made};
+ghost use Rattle.table.specs.Bytes.{field, words as fours};
+use std::alloc::AllocError;
+use std::alloc::Global;
 
 // The number of two bytes at a place.
 pub(crate) fn half(bytes: &[u8], at: usize) -> u16
@@ -26,4 +30,17 @@ pub(crate) fn after(bytes: &[u8], at: usize) -> &[u8]
     ensures { λ r. ⌜ now r ≡ drop at (now (bytes .entry)) ⌝ }
 {
     &bytes[at..]
+}
+
+// The numbers of four bytes each, as a list.
+pub fn words(heap: Global, bytes: &[u8]) -> Result<Vec<u32>, AllocError>
+    ensures { λ r. ⌜ made r (λ v. vec-items v ≡ fours (now (bytes .entry))) ⌝ }
+{
+    let mut all = Vec::new(heap);
+    let mut rest = bytes;
+    'fours: while rest.len() >= 4 {
+        all.push(word(rest, 0))?;
+        rest = after(rest, 4);
+    }
+    Ok(all)
 }

@@ -2,7 +2,6 @@
 pub mod bytes;
 pub mod first;
 pub mod kind;
-pub mod listing;
 pub mod range;
 pub mod reader;
 pub mod reading;
@@ -10,7 +9,6 @@ pub mod record;
 pub mod rule;
 
 pub use kind::RecordKind;
-pub use listing::Listing;
 pub use reader::Reader;
 pub use reading::records;
 pub use record::Placed;

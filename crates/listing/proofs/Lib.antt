@@ -1,0 +1,4 @@
+pub mod Admits
+pub mod Fitting
+pub mod PartKinds
+pub mod Whole
