@@ -30,13 +30,14 @@ mod tests {
 
     #[test]
     fn every_cut(rt: LibcRuntime) -> Result<(), Fail> {
+        let worked: &[u8] = WORKED;
         let mut place = 0usize;
-        for cut in 1..WORKED.len() {
+        for cut in 1..worked.len() {
             if ENDS.contains(&cut) {
                 place = place.saturating_add(1);
-                check_eq(verdict(rt.alloc(), &WORKED[0..cut]), (0, 0))?;
+                check_eq(verdict(rt.alloc(), &worked[0..cut]), (0, 0))?;
             } else {
-                check_eq(verdict(rt.alloc(), &WORKED[0..cut]), (1, place))?;
+                check_eq(verdict(rt.alloc(), &worked[0..cut]), (1, place))?;
             }
         }
         Ok(())
