@@ -1,11 +1,10 @@
 -- Lines that grow, turn by turn.
-use Prim.Native.Nat.{ℕ, zero, suc, _+_, _≤_, _<_}
-use mathlib.Core.Path.{_≡_, refl, sym, ap, _∙_}
+use Prim.Native.Nat.{ℕ, _+_, _≤_, _<_}
+use mathlib.Core.Path.{_≡_, sym, ap, _∙_}
 use mathlib.Core.List.{List, [], _∷_, _++_, map, append-assoc}
 use lib.ListN.{length, getD, take, drop}
 use native.Mathlib.Numerals.{add-one}
-use native.Mathlib.Omega.{arith}
-use Rattle.std.proofs.shelf.Lists.{append-nil, take-all, map-more, at-drop-more, at-drop-all, drop-map}
+use Rattle.std.proofs.shelf.Lists.{append-nil, take-all, map-more, at-drop-more, at-drop-all}
 use Rattle.device.specs.Figures.{Figures}
 use Rattle.bench.specs.Listing.{below, code-lines, part-lines}
 use Rattle.bench.specs.declared.line.Line.{Line}

@@ -1,5 +1,4 @@
 // The divider clock: rate = parent ÷ (code + 1), rounded up.
-ghost use mathlib.Core.Path.{_≡_};
 ghost use Rattle.device.specs.Device.{Written, Willing};
 ghost use Rattle.device.specs.Figures.{divider, Made};
 ghost use Rattle.clocks.specs.Supplied.{divider-figures, divider-model};

@@ -1,5 +1,4 @@
 // The tree clock: code = parent number × number of divisors + k, rate = parent ÷ (k + 1), rounded up.
-ghost use mathlib.Core.Path.{_≡_};
 ghost use Rattle.std.specs.Of.Vec.{vec-items};
 ghost use Rattle.device.specs.Device.{Written, Willing};
 ghost use Rattle.device.specs.Figures.{tree, Made};

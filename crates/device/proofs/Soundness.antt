@@ -1,15 +1,14 @@
 -- What every supplied device keeps follows from the range of its formula alone.
 use Prim.Native.Nat.{ℕ, _^_, _*_, _≤_, _<_}
-use mathlib.Core.Path.{_≡_, sym, ap, _∙_}
-use mathlib.Core.Bool.{Bool, true, false, not, cond, _&&_, _||_}
-use mathlib.Core.List.{List}
+use mathlib.Core.Path.{_≡_, ap, _∙_}
+use mathlib.Core.Bool.{true, not, _&&_}
 use lib.Dec.{ltb, eqb}
 use lib.ListN.{length}
 use native.Mathlib.Omega.{arith}
-use Rattle.std.proofs.shelf.Tests.{and-parts, ltb-true, lt-ltb, le-ltb, eqb-false, not-true, cond-both, cond-false}
+use Rattle.std.proofs.shelf.Tests.{and-parts, ltb-true, le-ltb, eqb-false, not-true, cond-both, cond-false}
 use Rattle.std.proofs.shelf.Ways.{tells}
-use Rattle.device.specs.Device.{Device, Sound, any-two}
-use Rattle.device.specs.Figures.{Figures, linear, listed, divider, tree, codes-of, formula, level-of, linked-of, one-turn, device-of}
+use Rattle.device.specs.Device.{Sound, any-two}
+use Rattle.device.specs.Figures.{Figures, linear, listed, divider, tree, codes-of, formula, linked-of, one-turn, device-of}
 
 two-symmetric : (n a b : ℕ) → any-two n a b ≡ any-two n b a
 two-symmetric n a b = grind (arith, tells)

@@ -1,6 +1,6 @@
 // The selector register of a supplied device: its present code and the tally of writes asked for.
 ghost use mathlib.Core.Path.{_≡_};
-ghost use Prim.Native.Nat.{ℕ, _<_, _^_};
+ghost use Prim.Native.Nat.{_<_, _^_};
 ghost use Rattle.device.specs.Device.{counted-on};
 use super::Code;
 

@@ -1,27 +1,26 @@
 -- A whole table is accepted exactly when its records make the table of a board.
-use Prim.Native.Nat.{ℕ, _+_, _≤_}
-use mathlib.Core.Path.{_≡_, refl, sym, ap, subst, _∙_}
-use mathlib.Core.Bool.{Bool, true, false, cond}
-use mathlib.Core.List.{List, [], _∷_, _++_}
-use mathlib.Core.Logic.{_⊎_, inl, inr}
+use Prim.Native.Nat.{ℕ, _≤_}
+use mathlib.Core.Path.{_≡_, sym, ap, subst, _∙_}
+use mathlib.Core.Bool.{true, false}
+use mathlib.Core.List.{List, []}
+use mathlib.Core.Logic.{inl, inr}
 use lib.Dec.{eqb}
 use lib.ListN.{length}
 use native.Mathlib.Omega.{arith}
-use Rattle.std.proofs.shelf.Tests.{eqb-false, eqb-true, ne-eqb}
-use Rattle.std.specs.declared.result.Result.the-variants.{Ok, Err}
-use Rattle.answer.specs.declared.refusal.Refusal.{Refusal}
+use Rattle.std.proofs.shelf.Tests.{ne-eqb}
+use Rattle.std.specs.declared.result.Result.the-variants.{Ok}
 use Rattle.answer.specs.declared.refusal.Refusal.the-variants.{NoPart}
 use Rattle.answer.specs.declared.fault.Fault.{Fault}
-use Rattle.answer.specs.Faults.{table-fault, memory-fault}
+use Rattle.answer.specs.Faults.{table-fault}
 use Rattle.table.specs.Bytes.{Bytes}
 use Rattle.table.specs.Records.{Rec}
-use Rattle.table.specs.Reading.{Verdict, accepted, sent-back, walk}
+use Rattle.table.specs.Reading.{accepted, sent-back, walk}
 use Rattle.table.specs.Tables.{Encodes, run}
 use Rattle.listing.specs.Lists.{Lists, nothing, admit, closed, listing, parts-of, rules-of, product, Fits}
 use Rattle.table.specs.Answered.{Sent-back}
-use Rattle.listing.specs.Listed.{lists-of, Read, Board-table, Only-full, All-fresh}
+use Rattle.listing.specs.Listed.{lists-of, Board-table, Only-full}
 use Rattle.listing.specs.declared.Listing.{Listing}
-use Rattle.listing.proofs.Fitting.{Taken, run-taken, taken-run}
+use Rattle.listing.proofs.Fitting.{run-taken, taken-run}
 use Rattle.table.proofs.Walks.{walk-encoded, walk-accepted}
 
 -- a table read to its end with a part is accepted

@@ -6,7 +6,7 @@
 --   listing    what the bytes of a table list, or why and where it is sent back
 --   Names      a rule names parts that are there, of the right kind
 --   Fits       records that make the table of a board
-use Prim.Native.Nat.{ℕ, zero, suc, _+_, _*_, _≤_}
+use Prim.Native.Nat.{ℕ, zero, suc, _*_, _≤_}
 use mathlib.Core.Path.{_≡_}
 use mathlib.Core.Bool.{Bool, true, false, not, cond, _&&_}
 use mathlib.Core.List.{List, [], _∷_, _++_}

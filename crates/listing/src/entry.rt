@@ -1,9 +1,7 @@
 // A record made into what it lists: a part with its levels, or a rule.
 ghost use mathlib.Core.Path.{_≡_};
 ghost use mathlib.Core.Bool.{true};
-ghost use Rattle.std.specs.Of.Vec.{vec-items};
 ghost use Rattle.std.specs.Results.{Cases};
-ghost use Rattle.std.specs.Vec.{made};
 ghost use Rattle.answer.specs.Faults.{memory-fault};
 ghost use Rattle.table.specs.Bytes.{words};
 ghost use Rattle.listing.specs.Entries.{Is};
@@ -17,7 +15,6 @@ use clocks::TreeClock;
 use device::Code;
 use rails::LinearRail;
 use rails::TableRail;
-use std::alloc::AllocError;
 use std::alloc::Global;
 use table::Record;
 use table::Rule;

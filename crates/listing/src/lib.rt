@@ -8,7 +8,7 @@ ghost use Rattle.listing.specs.Lists.{product};
 use table::Rule;
 
 pub mod admit;
-pub mod entry;
+mod entry;
 pub mod part;
 pub mod read;
 

@@ -1,5 +1,4 @@
 // The linear rail: level = lowest + code × step.
-ghost use mathlib.Core.Path.{_≡_};
 ghost use Rattle.device.specs.Device.{Written, Willing};
 ghost use Rattle.device.specs.Figures.{linear, Made};
 ghost use Rattle.rails.specs.Supplied.{linear-figures, linear-model};

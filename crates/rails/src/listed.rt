@@ -1,5 +1,4 @@
 // The table rail: a list has the level of each code.
-ghost use mathlib.Core.Path.{_≡_};
 ghost use Rattle.std.specs.Of.Vec.{vec-items};
 ghost use Rattle.device.specs.Device.{Written, Willing};
 ghost use Rattle.device.specs.Figures.{listed, Made};

@@ -1,22 +1,20 @@
 -- Bodies of records, there and back, kind by kind.
-use Prim.Native.Nat.{ℕ, zero, suc, _+_, _-_, _*_, _/_, _%_, _≤_, _<_}
-use mathlib.Core.Path.{_≡_, refl, sym, ap, ap₂, subst, _∙_}
-use mathlib.Core.Bool.{Bool, true, false, _&&_}
-use mathlib.Core.List.{List, [], _∷_, _++_}
+use Prim.Native.Nat.{ℕ, _-_, _*_, _/_, _%_, _≤_, _<_}
+use mathlib.Core.Path.{_≡_, refl, ap, ap₂}
+use mathlib.Core.Bool.{true}
+use mathlib.Core.List.{List, [], _∷_}
 use lib.Dec.{eqb, leb, ltb}
-use lib.ListN.{length, getD, take, drop, length-drop}
+use lib.ListN.{length, drop, length-drop}
 use native.Mathlib.Omega.{arith}
 use Rattle.std.specs.Joined.{joined}
-use Rattle.std.proofs.shelf.Tests.{and-parts, and-from, eqb-true, leb-true, le-leb, ltb-true, lt-ltb, eq-eqb}
+use Rattle.std.proofs.shelf.Tests.{and-parts, and-from, eqb-true, leb-true, le-leb, ltb-true, lt-ltb}
 use Rattle.std.proofs.shelf.Ways.{tells}
-use Rattle.std.specs.declared.option.Option.the-variants.{Some}
-use Rattle.device.specs.Figures.{Figures, linear, listed, divider, tree, from-to, level-ok, levels-ok, length-ok, ranged}
+use Rattle.device.specs.Figures.{linear, listed, divider, tree, from-to, level-ok, levels-ok}
 use Rattle.table.specs.Bytes.{field, le, words, Bytes}
-use Rattle.table.specs.Kinds.{kind-number, body-ok, known}
-use Rattle.table.specs.Records.{Rec, part, rule, record-kind, body-of, decode, figures-ok, rule-ok, parts-fit, shape-ok, figure-ok}
+use Rattle.table.specs.Kinds.{body-ok}
+use Rattle.table.specs.Records.{Rec, part, rule, record-kind, body-of, decode, figures-ok, shape-ok, figure-ok}
 use Rattle.table.specs.declared.kind.RecordKind.{RecordKind}
 use Rattle.table.specs.declared.kind.RecordKind.the-variants as kinds
-use Rattle.table.specs.declared.rule.Rule.{Rule}
 use Rattle.table.specs.declared.rule.Rule.the-variants.{Window, Spread, Step, Need, Cap}
 use Rattle.table.proofs.LittleEndian.{bytes-drop, byte-at, le-at, le-last, words-back, length-words, word-back, byte-back, length-joined}
 

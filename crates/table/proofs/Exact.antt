@@ -1,17 +1,16 @@
 -- A table is accepted exactly when it is the encoding of records in range.
-use Prim.Native.Nat.{ℕ, _+_, _≤_}
-use mathlib.Core.Path.{_≡_, refl, sym, ap, subst, _∙_}
+use Prim.Native.Nat.{ℕ}
+use mathlib.Core.Path.{_≡_, sym, ap, subst, _∙_}
 use mathlib.Core.List.{List, [], _∷_, _++_, map}
-use mathlib.Core.Logic.{_⊎_, inl, inr}
+use mathlib.Core.Logic.{inl, inr}
 use lib.ListN.{length}
 use native.Mathlib.Omega.{arith}
 use Rattle.std.proofs.shelf.Lists.{append-nil, append-assoc}
-use Rattle.std.specs.declared.result.Result.the-variants.{Ok, Err}
+use Rattle.std.specs.declared.result.Result.the-variants.{Ok}
 use Rattle.answer.specs.declared.fault.Fault.{Fault}
-use Rattle.answer.specs.Faults.{memory-fault}
 use Rattle.table.specs.Bytes.{Bytes}
 use Rattle.table.specs.Records.{Rec}
-use Rattle.table.specs.Reading.{Verdict, accepted, sent-back}
+use Rattle.table.specs.Reading.{accepted, sent-back}
 use Rattle.table.specs.Tables.{Encodes, run, keep, records-of}
 use Rattle.table.specs.Answered.{placed-record, Records-read, Sent-back, Exactly, Only-memory}
 use Rattle.table.specs.declared.record.Placed.{Placed}

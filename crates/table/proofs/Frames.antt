@@ -1,7 +1,7 @@
 -- A record's frame: what its checks come to.
 use Prim.Native.Nat.{ℕ, _+_, _-_, _≤_}
-use mathlib.Core.Path.{_≡_, refl, sym, ap, subst, _∙_}
-use mathlib.Core.Bool.{Bool, true, false, cond, _&&_}
+use mathlib.Core.Path.{_≡_, sym, ap, subst, _∙_}
+use mathlib.Core.Bool.{Bool, true, cond}
 use mathlib.Core.List.{List}
 use lib.Dec.{leb}
 use lib.ListN.{length, take, drop, length-drop}
@@ -14,7 +14,7 @@ use Rattle.answer.specs.declared.refusal.Refusal.the-variants.{OutOfRange}
 use Rattle.table.specs.Kinds.{body-ok}
 use Rattle.table.specs.Meaning.{First}
 use Rattle.table.specs.Records.{Rec, decode, figures-ok}
-use Rattle.table.specs.Reading.{Front, framed, found, refused}
+use Rattle.table.specs.Reading.{framed, found, refused}
 use Rattle.table.specs.declared.kind.RecordKind.{RecordKind}
 use Rattle.table.specs.declared.record.Record.{Record}
 

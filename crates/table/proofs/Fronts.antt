@@ -1,20 +1,19 @@
 -- What stands at the front of some bytes is a record exactly where they begin with the bytes of that record.
-use Prim.Native.Nat.{ℕ, zero, suc, _+_, _-_, _*_, _≤_, _<_}
-use mathlib.Core.Path.{_≡_, refl, sym, ap, ap₂, subst, _∙_}
+use Prim.Native.Nat.{ℕ, _+_, _-_, _≤_, _<_}
+use mathlib.Core.Path.{_≡_, refl, sym, ap, ap₂, _∙_}
 use mathlib.Core.Bool.{Bool, true, false, cond, _&&_}
 use mathlib.Core.List.{List, [], _∷_, _++_}
 use lib.Dec.{eqb, leb, ltb}
 use lib.ListN.{length, take, drop, length-drop, length-append}
 use native.Mathlib.Omega.{arith}
-use Rattle.std.proofs.shelf.Lists.{take-append-drop, drop-drop, take-at, length-take-le, append-assoc}
-use Rattle.std.proofs.shelf.Tests.{and-parts, and-from, eqb-true, leb-true, le-leb, le-ltb, ne-eqb, eq-eqb}
+use Rattle.std.proofs.shelf.Lists.{take-append-drop, drop-drop, take-at, length-take-le}
+use Rattle.std.proofs.shelf.Tests.{and-parts, and-from, eqb-true, leb-true, le-ltb, ne-eqb}
 use Rattle.std.specs.declared.option.Option.{Option}
 use Rattle.std.specs.declared.option.Option.the-variants.{Some, None}
-use Rattle.answer.specs.declared.refusal.Refusal.{Refusal}
 use Rattle.table.specs.Bytes.{field, le, Bytes}
 use Rattle.table.specs.Kinds.{kind-number, body-ok, known, numbered, all-kinds}
 use Rattle.table.specs.Records.{Rec, record-kind, body-of, encode, decode, figures-ok, shape-ok, in-range}
-use Rattle.table.specs.Reading.{Front, finished, found, refused, framed, front}
+use Rattle.table.specs.Reading.{finished, found, refused, framed, front}
 use Rattle.table.specs.declared.kind.RecordKind.{RecordKind}
 use Rattle.table.specs.declared.kind.RecordKind.the-variants as kinds
 use Rattle.table.proofs.LittleEndian.{bytes-drop, bytes-take, le-at, half-back}

@@ -1,14 +1,13 @@
 -- Numbers in bytes, there and back.
-use Prim.Native.Nat.{ℕ, zero, suc, _+_, _-_, _*_, _/_, _%_, _≤_, _<_}
-use mathlib.Core.Path.{_≡_, refl, sym, ap, ap₂, subst, _∙_}
+use Prim.Native.Nat.{ℕ, zero, suc, _+_, _*_, _/_, _%_, _≤_, _<_}
+use mathlib.Core.Path.{_≡_, refl, sym, ap, ap₂, _∙_}
 use mathlib.Core.List.{List, [], _∷_, _++_}
-use lib.ListN.{length, getD, take, drop, length-drop}
-use lib.Seq.{getD-drop, drop-cons}
+use lib.ListN.{length, getD, take, drop}
 use native.Mathlib.Omega.{arith}
 use mir.Syntax.{w8}
 use mir.Val.{Fits}
 use Rattle.std.specs.Joined.{joined}
-use Rattle.std.proofs.shelf.Lists.{drop-drop, drop-all, drop-more, append-nil}
+use Rattle.std.proofs.shelf.Lists.{drop-all, drop-more, append-nil}
 use Rattle.table.specs.Bytes.{field, le, words, Bytes}
 
 -- a number read from bytes is written as those bytes

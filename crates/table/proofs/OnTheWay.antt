@@ -1,8 +1,8 @@
 -- The reading of a table, on its way, whatever is done with its records.
-use Prim.Native.Nat.{ℕ, zero, suc, _+_, _-_, _≤_, _<_}
-use mathlib.Core.Path.{_≡_, refl, sym, ap, ap₂, subst, _∙_}
-use mathlib.Core.List.{List, [], _∷_, _++_}
-use lib.ListN.{length, drop, length-drop}
+use Prim.Native.Nat.{ℕ, _+_, _-_, _≤_, _<_}
+use mathlib.Core.Path.{_≡_, sym, ap, subst, _∙_}
+use mathlib.Core.List.{List}
+use lib.ListN.{length, drop}
 use native.Mathlib.Omega.{arith}
 use Rattle.std.proofs.shelf.Lists.{drop-drop}
 use Rattle.std.specs.declared.option.Option.{Option}
@@ -13,9 +13,9 @@ use Rattle.answer.specs.declared.refusal.Refusal.{Refusal}
 use Rattle.answer.specs.declared.fault.Fault.{Fault}
 use Rattle.answer.specs.Faults.{table-fault}
 use Rattle.table.specs.Bytes.{Bytes}
-use Rattle.table.specs.Records.{Rec, in-range}
+use Rattle.table.specs.Records.{Rec}
 use Rattle.table.specs.Reading.{walk, front, finished, found, refused, accepted, sent-back}
-use Rattle.table.specs.Meaning.{meant, Next}
+use Rattle.table.specs.Meaning.{Next}
 use Rattle.table.specs.Answered.{placed-record}
 use Rattle.table.specs.declared.record.Placed.{Placed}
 use Rattle.table.proofs.LittleEndian.{bytes-drop}

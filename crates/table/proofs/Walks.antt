@@ -1,18 +1,17 @@
 -- The reading of whole tables: the bytes of records are read as those records.
-use Prim.Native.Nat.{ℕ, zero, suc, _+_, _-_, _*_, _≤_, _<_}
-use mathlib.Core.Path.{_≡_, refl, sym, ap, ap₂, subst, _∙_}
-use mathlib.Core.Bool.{Bool, true, false, cond, _&&_}
+use Prim.Native.Nat.{ℕ, zero, suc, _+_, _-_, _≤_, _<_}
+use mathlib.Core.Path.{_≡_, refl, sym, ap, ap₂, _∙_}
 use mathlib.Core.List.{List, [], _∷_, _++_}
-use lib.ListN.{length, take, drop, length-drop, length-append}
+use lib.ListN.{length, drop, length-drop}
 use native.Mathlib.Omega.{arith}
 use Rattle.std.specs.Joined.{joined}
-use Rattle.std.proofs.shelf.Lists.{drop-drop, drop-at, nil-from-length}
+use Rattle.std.proofs.shelf.Lists.{drop-at, nil-from-length}
 use Rattle.std.specs.declared.result.Result.{Result}
 use Rattle.std.specs.declared.result.Result.the-variants.{Ok, Err}
 use Rattle.answer.specs.declared.refusal.Refusal.{Refusal}
 use Rattle.table.specs.Bytes.{Bytes}
-use Rattle.table.specs.Records.{Rec, encode, in-range}
-use Rattle.table.specs.Reading.{Front, finished, found, refused, front, by-front, by-added, Verdict, accepted, sent-back, walk}
+use Rattle.table.specs.Records.{Rec, encode}
+use Rattle.table.specs.Reading.{Front, finished, found, refused, front, by-front, by-added, accepted, sent-back, walk}
 use Rattle.table.specs.Tables.{Encodes, run}
 use Rattle.table.proofs.LittleEndian.{bytes-drop}
 use Rattle.table.proofs.Fronts.{front-encoded, front-found, front-finished, Begins}

@@ -1,7 +1,7 @@
 -- The numbers of four bytes each, from the front of the bytes on.
 use Prim.Native.Nat.{ℕ, _≤_, _<_}
 use mathlib.Core.Path.{_≡_, refl, sym, ap, _∙_}
-use mathlib.Core.Bool.{Bool, true, false, _&&_}
+use mathlib.Core.Bool.{Bool, true, _&&_}
 use mathlib.Core.List.{List, [], _∷_, _++_, append-assoc}
 use lib.ListN.{length, drop}
 use native.Mathlib.Omega.{arith}
@@ -29,10 +29,7 @@ words-none (a ∷ (b ∷ (c ∷ (d ∷ bs)))) h = absurd (omega arith)
 pub levels-more : (bs : List ℕ) (all : Bool) → 4 ≤ length bs → level-ok (field bs 0 4) ≡ true → levels-ok (words bs) ≡ all → levels-ok (words (drop 4 bs)) ≡ all
 levels-more bs all h e was = sym (ap levels-ok (words-more bs h) ∙ ap (λ t. t && levels-ok (words (drop 4 bs))) e) ∙ was
 
--- and ends at what is none
-pub levels-stop : (bs : List ℕ) (all : Bool) → 4 ≤ length bs → level-ok (field bs 0 4) ≡ false → levels-ok (words bs) ≡ all → false ≡ all
-levels-stop bs all h e was = sym (ap levels-ok (words-more bs h) ∙ ap (λ t. t && levels-ok (words (drop 4 bs))) e) ∙ was
-
+-- and ends with the bytes
 pub levels-end : (bs : List ℕ) (all : Bool) → length bs < 4 → levels-ok (words bs) ≡ all → true ≡ all
 levels-end bs all h was = sym (ap levels-ok (words-none bs h)) ∙ was
 

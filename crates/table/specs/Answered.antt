@@ -8,9 +8,6 @@ use mathlib.Core.Path.{_≡_}
 use mathlib.Core.List.{List, [], _∷_, map}
 use mathlib.Core.Logic.{_⊎_}
 use lib.ListN.{length}
-use Rattle.std.specs.Of.Vec.{vec-items}
-use Rattle.std.specs.declared.result.Result.{Result}
-use Rattle.std.specs.declared.result.Result.the-variants.{Ok, Err}
 use Rattle.answer.specs.declared.fault.Fault.{Fault}
 use Rattle.answer.specs.Faults.{table-fault, memory-fault}
 use Rattle.table.specs.Records.{Rec, encode}

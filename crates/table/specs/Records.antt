@@ -7,8 +7,8 @@
 --   figures-ok   every figure in its range
 --   in-range     every figure in its range, and lists of a length that the kind has
 use Prim.Native.Nat.{ℕ, _+_}
-use mathlib.Core.Bool.{Bool, true, _&&_}
-use mathlib.Core.List.{List, [], _∷_, _++_}
+use mathlib.Core.Bool.{Bool, _&&_}
+use mathlib.Core.List.{List, _++_}
 use lib.Dec.{leb, ltb}
 use lib.ListN.{length, drop}
 use Rattle.std.specs.Joined.{joined}

@@ -1,7 +1,5 @@
 // The record at the front of some bytes, and the checks of one record in their order.
-ghost use mathlib.Core.Path.{_≡_};
-ghost use Prim.Native.Nat.{_+_, _≤_};
-ghost use lib.ListN.{length};
+ghost use Prim.Native.Nat.{_+_};
 ghost use Rattle.std.specs.declared.option.Option.the-variants.{Some};
 ghost use Rattle.table.specs.Meaning.{First, Framed};
 use super::bytes::half;

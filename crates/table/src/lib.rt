@@ -1,8 +1,8 @@
 // The constraint table of a board: its bytes read record by record, and as a whole.
 pub mod bytes;
-pub mod first;
+mod first;
 pub mod kind;
-pub mod range;
+mod range;
 pub mod reader;
 pub mod reading;
 pub mod record;

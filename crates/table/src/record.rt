@@ -3,7 +3,7 @@ ghost use mathlib.Core.Path.{_≡_};
 ghost use mathlib.Core.Bool.{true};
 ghost use lib.ListN.{length};
 ghost use Rattle.table.specs.Kinds.{body-ok};
-ghost use Rattle.table.specs.Meaning.{meant};
+ghost use Rattle.table.specs.Meaning.{meant, Own};
 ghost use Rattle.table.specs.Records.{decode as held};
 use super::bytes::after;
 use super::bytes::word;
@@ -32,7 +32,8 @@ pub struct Placed<'a> {
 // The record that a body of this kind holds.
 pub(crate) fn decode<'a>(kind: RecordKind, body: &'a [u8]) -> Record<'a>
     requires { ⌜ body-ok kind (length (now body)) ≡ true ⌝ }
-    ensures { λ r. ⌜ meant r ≡ held kind (now (body .entry)) ⌝ }
+    ensures held { λ r. ⌜ meant r ≡ held kind (now (body .entry)) ⌝ }
+    ensures own { λ r. ⌜ Own r (now (body .entry)) ⌝ }
 {
     match kind {
         RecordKind::LinearRail => Record::LinearRail {

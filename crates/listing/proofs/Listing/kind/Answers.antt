@@ -1,7 +1,5 @@
-use mathlib.Core.Path.{sym, ap, _∙_}
 use native.Mathlib.Omega.{arith}
 use Rattle.std.specs.Of.Vec.{vec-items}
-use Rattle.device.specs.Figures.{kind-of}
 use Rattle.listing.specs.Parts.{part-figures}
 use Rattle.listing.proofs.PartKinds.{kind-there, kind-absent}
 use Rattle.listing.proofs.Listing.kind.Needs as need

@@ -1,7 +1,7 @@
 use mathlib.Core.Path.{sym, ap, _∙_}
 use Rattle.device.specs.Figures.{level-ok, levels-ok}
 use Rattle.table.specs.Bytes.{words}
-use Rattle.table.proofs.Words.{levels-more, levels-stop, levels-end}
+use Rattle.table.proofs.Words.{levels-more, levels-end}
 use Rattle.table.proofs.range.are_levels.Needs as need
 
 pub listed-again : need.listed-again

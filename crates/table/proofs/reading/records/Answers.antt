@@ -3,8 +3,16 @@ use Rattle.std.proofs.shelf.Results.{err-from-errBy}
 use Rattle.table.proofs.Exact.{exactly, only-memory}
 use Rattle.table.proofs.Going.{going-none, going-more, going-all, going-fault}
 use Rattle.table.proofs.LittleEndian.{bytes-from}
-use Rattle.table.proofs.OnTheWay.{here, here-less}
+use Rattle.table.proofs.OnTheWay.{Here, here, here-less}
 use Rattle.table.proofs.reading.records.Needs as need
+use Rattle.table.proofs.reading.records.Needs.{In-Some}
+
+-- the record at the cursor
+at-cursor : (c : In-Some) → Here (c .args .table .now) (c .in-Some .one) (c .records .reader .number) (c .records .reader .at) (c .next .last .self .number) (c .next .last .self .at)
+at-cursor c =
+    here (c .args .table .now) (c .records .reader .table .now) (c .in-Continue-one .field-0) (c .in-Some .one)
+    (c .records .reader .number) (c .records .reader .at) (c .next .last .self .number) (c .next .last .self .at)
+    (bytes-from (c .args .table .now) (c .typed .table)) (c .records .inv .way .same) (c .in-Continue-one .ensures tt .read) (c .in-Some .is)
 
 pub records-holds : need.records-holds
 records-holds c =
@@ -23,18 +31,16 @@ pub records-less : need.records-less
 records-less c =
     let was = c .records .reader in
     let after = c .next .last .self in
-    let at = here (c .args .table .now) (was .table .now) (c .in-Continue-one .field-0) (c .in-Some .one) (was .number) (was .at) (after .number) (after .at)
-    (bytes-from (c .args .table .now) (c .typed .table)) (c .records .inv .way .same) (c .in-Continue-one .ensures tt .read) (c .in-Some .is) in
-    here-less (c .args .table .now) (was .table .now) (after .table .now) (c .in-Some .one) (was .number) (was .at) (after .number) (after .at) at (c .in-Continue-one .ensures tt .bytes) (after .inside)
+    here-less (c .args .table .now) (was .table .now) (after .table .now) (c .in-Some .one) (was .number) (was .at) (after .number) (after .at)
+    (at-cursor (need.at·records-less c .In-Some)) (c .in-Continue-one .ensures tt .bytes) (after .inside)
 
 pub records-again : need.records-again
 records-again c =
     let was = c .records .reader in
     let after = c .next .last .self in
-    let at = here (c .args .table .now) (was .table .now) (c .in-Continue-one .field-0) (c .in-Some .one) (was .number) (was .at) (after .number) (after .at)
-    (bytes-from (c .args .table .now) (c .typed .table)) (c .records .inv .way .same) (c .in-Continue-one .ensures tt .read) (c .in-Some .is) in
     going-more (c .args .table .now) (was .table .now) (after .table .now) (vec-items (c .records .all)) (vec-items (c .push .last .self)) (c .in-Some .one)
-    (was .number) (was .at) (after .number) (after .at) (c .records .inv) (c .in-Continue-one .ensures tt .bytes) at (c .in-Continue-push .ensures tt .items)
+    (was .number) (was .at) (after .number) (after .at) (c .records .inv) (c .in-Continue-one .ensures tt .bytes)
+    (at-cursor (need.at·records-again c .In-Some)) (c .in-Continue-push .ensures tt .items)
 
 pub returns : need.returns
 returns c =
