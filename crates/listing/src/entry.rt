@@ -3,7 +3,6 @@ ghost use mathlib.Core.Path.{_≡_};
 ghost use mathlib.Core.Bool.{true};
 ghost use Rattle.std.specs.Results.{Cases};
 ghost use Rattle.answer.specs.Faults.{memory-fault};
-ghost use Rattle.table.specs.Bytes.{words};
 ghost use Rattle.listing.specs.Entries.{Is};
 ghost use Rattle.table.specs.Meaning.{meant};
 ghost use Rattle.table.specs.Records.{in-range};

@@ -22,6 +22,6 @@ pub struct Listing {
     states: u32,
     ghost few: { vec-len parts ≤ 6 },
     ghost ruled: { vec-len rules ≤ 24 },
-    ghost product: { states ≡ product (map part-figures (vec-items parts)) },
+    ghost counted: { states ≡ product (map part-figures (vec-items parts)) },
     ghost bounded: { states ≤ 4096 },
 }

@@ -21,7 +21,7 @@ returns-then-len-ge-MOST-PARTS c =
     let v = l .parts in
     let n : c .len .result ≡ length (lists-of l .parts) = c .len .ensures ∙ omega (arith, v .ok .0, length-map (vec-items v) part-figures) in
     let count : c .from .result ≡ codes-of (part-figures (c .args .part)) = c .from .ensures ∙ c .count .ensures in
-    let why = too-many (lists-of l) (part-figures (c .args .part)) (c .len .result) (l .states) (c .from .result) n (l .product) count (c .then-len-ge-MOST-PARTS .either) in
+    let why = too-many (lists-of l) (part-figures (c .args .part)) (c .len .result) (l .states) (c .from .result) n (l .counted) count (c .then-len-ge-MOST-PARTS .either) in
     record { added = not-added _ TooMany (c .args .number) (c .table .result) (c .table .ensures) why; fresh = λ all _. all }
 
 pub ghost-self-2 : need.ghost-self-2
@@ -32,7 +32,7 @@ ghost-self-2 c =
     let count : c .from .result ≡ codes-of (part-figures (c .args .part)) = c .from .ensures ∙ c .count .ensures in
     let pushed : map part-figures (vec-items (c .push .last .self)) ≡ lists-of l .parts ++ part-figures (c .args .part) ∷ [] =
     ap (map part-figures) (c .in-Continue-push .ensures tt .items) ∙ map-push part-figures (vec-items v) (c .args .part) in
-    (omega (arith, c .in-Continue-push .ensures tt .len), (l .ruled, (product-taken (lists-of l) (part-figures (c .args .part)) (c .len .result) (l .states) (c .from .result) n (l .product) count _ pushed, (omega arith, tt))))
+    (omega (arith, c .in-Continue-push .ensures tt .len), (l .ruled, (product-taken (lists-of l) (part-figures (c .args .part)) (c .len .result) (l .states) (c .from .result) n (l .counted) count _ pushed, (omega arith, tt))))
 
 pub returns : need.returns
 returns c =
@@ -44,6 +44,6 @@ returns c =
     let pushed : map part-figures (vec-items (c .push .last .self)) ≡ lists-of l .parts ++ part-figures (c .args .part) ∷ [] =
     ap (map part-figures) items ∙ map-push part-figures (vec-items v) (c .args .part) in
     record {
-      added = taken (lists-of l) (part-figures (c .args .part)) (c .len .result) (l .states) (c .from .result) n (l .product) count (omega arith) (omega arith) _ pushed;
+      added = taken (lists-of l) (part-figures (c .args .part)) (c .len .result) (l .states) (c .from .result) n (l .counted) count (omega arith) (omega arith) _ pushed;
       fresh = λ all made. subst (λ (ps : List Part). All (λ p. Fresh (part-model p)) ps) (sym items) (all-push (λ p. Fresh (part-model p)) (vec-items v) (c .args .part) all made);
     }
