@@ -3,14 +3,10 @@
 --   code-lines    the codes of a part with their levels
 --   part-lines    the codes of all parts, from a part number on
 --   lines-of      the lines for what a table lists, or for why it is sent back
---   Printed       these lines, or the one line for want of memory
 use Prim.Native.Nat.{ℕ, zero, suc, _+_}
-use mathlib.Core.Path.{_≡_}
 use mathlib.Core.List.{List, [], _∷_, _++_, map}
-use mathlib.Core.Logic.{_⊎_}
-use Rattle.answer.specs.declared.refusal.Refusal.the-variants.{NoMemory}
 use Rattle.device.specs.Figures.{Figures, kind-of, codes-of, level-of}
-use Rattle.listing.specs.Lists.{Lists, listing}
+use Rattle.listing.specs.Lists.{Lists}
 use Rattle.table.specs.Reading.{Verdict, accepted, sent-back}
 use Rattle.bench.specs.declared.line.Line.{Line}
 use Rattle.bench.specs.declared.line.Line.the-variants.{Level, Rule, Refused}
@@ -33,7 +29,3 @@ part-lines number (f ∷ fs) = code-lines number f ++ part-lines (number + 1) fs
 abbrev pub lines-of : Verdict Lists → List Line
 lines-of (accepted n l) = part-lines 0 (l .parts) ++ map Rule (l .rules)
 lines-of (sent-back why place) = Refused why ∷ []
-
--- what is printed for the bytes of a table, or that memory ran out
-abbrev pub Printed : List ℕ → List Line → Type 0
-Printed bs lines = (lines ≡ lines-of (listing bs)) ⊎ (lines ≡ Refused NoMemory ∷ [])

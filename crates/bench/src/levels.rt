@@ -1,13 +1,21 @@
 // What `levels` prints: every code of every part with its level, and every rule.
 ghost use mathlib.Core.Path.{_≡_};
-ghost use mathlib.Core.List.{_++_, map};
+ghost use mathlib.Core.Bool.{true};
+ghost use mathlib.Core.List.{[], _∷_, _++_, map};
 ghost use Rattle.std.specs.Of.Vec.{vec-items};
+ghost use Rattle.std.specs.Results.{Cases, isErr};
 ghost use Rattle.std.specs.Vec.{made};
-ghost use Rattle.bench.specs.Listing.{code-lines, part-lines, Printed};
-ghost use Rattle.bench.specs.declared.line.Line.the-variants.{Rule as rule-line};
+ghost use Rattle.answer.specs.Faults.{memory-fault};
+ghost use Rattle.bench.specs.Listing.{code-lines, part-lines, lines-of};
+ghost use Rattle.bench.specs.declared.line.Line.the-variants.{Rule as rule-line, Refused};
 ghost use Rattle.listing.specs.Parts.{part-figures};
 ghost use Rattle.listing.specs.Listed.{lists-of};
+ghost use Rattle.listing.specs.Lists.{listing as listed};
 use super::line::Line;
+use answer::Fault;
+use answer::FaultFromAlloc;
+use answer::FaultFromRefused;
+use answer::Refusal;
 use listing::Listing;
 use listing::Part;
 use std::alloc::AllocError;
@@ -51,17 +59,30 @@ fn add_rules(lines: &mut Vec<Line>, listing: &Listing) -> Result<(), AllocError>
     Ok(())
 }
 
-// The lines for a table: its parts' codes with their levels and then its rules, or its refusal alone.
-pub fn levels(heap: Global, table: &[u8]) -> Result<Vec<Line>, AllocError>
-    ensures { λ r. ⌜ made r (λ v. Printed (now (table .entry)) (vec-items v)) ⌝ }
+// The one line of a refused table. Want of memory is no refusal of the table, and stays a fault.
+fn refused(heap: Global, fault: Fault) -> Result<Vec<Line>, Fault>
+    ensures line { λ r. ⌜ Cases r (λ v. vec-items v ≡ Refused (fault .refusal) ∷ []) (λ f. f ≡ memory-fault) ⌝ }
+    ensures table { λ r. ⌜ (fault ≡ memory-fault → isErr r ≡ true) ⌝ }
 {
+    if let Refusal::NoMemory = fault.refusal {
+        return Err(Fault::memory());
+    }
     let mut lines = Vec::new(heap);
+    lines.push(Line::Refused(fault.refusal))?;
+    Ok(lines)
+}
+
+// The lines for a table: its parts' codes with their levels and then its rules, or its refusal alone.
+pub fn levels(heap: Global, table: &[u8]) -> Result<Vec<Line>, Fault>
+    ensures { λ r. ⌜ Cases r (λ v. vec-items v ≡ lines-of (listed (now (table .entry)))) (λ f. f ≡ memory-fault) ⌝ }
+{
     match Listing::read(heap, table) {
         Ok(listing) => {
+            let mut lines = Vec::new(heap);
             add_parts(&mut lines, &listing)?;
             add_rules(&mut lines, &listing)?;
+            Ok(lines)
         }
-        Err(fault) => lines.push(Line::Refused(fault.refusal))?,
+        Err(fault) => refused(heap, fault),
     }
-    Ok(lines)
 }

@@ -1,6 +1,5 @@
 // Reads a constraint table from standard input, and prints every code of every part with its level and every rule,
 // or the number of its refusal.
-use answer::Refusal;
 use bench::Line;
 use bench::LineDisplay;
 use bench::levels::levels;
@@ -21,6 +20,6 @@ fn main(rt: LibcRuntime) -> io::Result<()> {
             }
             Ok(())
         }
-        Err(_) => rt.println(Line::Refused(Refusal::NoMemory)),
+        Err(fault) => rt.println(Line::Refused(fault.refusal)),
     }
 }
