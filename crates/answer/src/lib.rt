@@ -1,4 +1,7 @@
 // What every layer answers with: refusals, the layers that refuse, faults, and the type of a state number.
+
+#![tactic(auto)]
+
 pub mod fault;
 pub mod layer;
 pub mod refusal;

@@ -1,4 +1,7 @@
 // Banks: lists of parts, each a device of a kind. Everything above a device sees a bank.
+
+#![tactic(auto)]
+
 ghost use Rattle.std.specs.Prelude.{◌≡◌};
 ghost use Rattle.bank.specs.Banks.{BankModel, Sound, Written};
 

@@ -1,4 +1,7 @@
 // Boards: a bank under rules, its states by number, which of them are lawful and which two are joined.
+
+#![tactic(auto)]
+
 use bank::Bank;
 use table::Rule;
 

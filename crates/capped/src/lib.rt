@@ -1,4 +1,7 @@
 // One clock by itself, with a cap on its rate, as a graph: its states are its codes.
+
+#![tactic(auto)]
+
 ghost use Rattle.std.specs.Prelude.{◌≡◌, nat_le, nat_lt};
 ghost use Rattle.capped.specs.Capped.{clock_graph, under_cap};
 ghost use Rattle.std.proofs.Common.{arith};

@@ -1,4 +1,7 @@
 // Tables and what the reader answers of them: one table of cases, and every cut of a good table.
+
+#![tactic(auto)]
+
 mod cases;
 
 #[cfg(test)]

@@ -1,4 +1,7 @@
 // Devices: a regulator or a clock, by its levels, its present code and its tally of writes.
+
+#![tactic(auto)]
+
 pub mod answers;
 pub mod clock;
 pub mod kind;

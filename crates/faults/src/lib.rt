@@ -1,5 +1,7 @@
 // A bench's faults: any bank, with outcomes that its writes are to have.
 
+#![tactic(auto)]
+
 pub mod outcome;
 pub mod over;
 pub mod script;

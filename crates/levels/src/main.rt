@@ -1,5 +1,8 @@
 // Reads a constraint table from standard input, and prints every code of every part with its level and every rule,
 // or the number of its refusal.
+
+#![tactic(auto)]
+
 use bench::Line;
 use bench::levels::levels;
 use std::io;

@@ -1,4 +1,7 @@
 // The listed bank: the parts that a table lists, each of a supplied kind. It is done wherever a write exists.
+
+#![tactic(auto)]
+
 ghost use Rattle.std.specs.Prelude.{◌≤◌, vec_len};
 
 use listing::Part;

@@ -1,4 +1,7 @@
 // What a table lists: the parts and the rules of a board, each in order.
+
+#![tactic(auto)]
+
 ghost use Rattle.std.specs.Prelude.{◌≡◌, ◌≤◌, map, vec_len};
 ghost use Rattle.listing.specs.Parts.{part_figures};
 ghost use Rattle.listing.specs.Lists.{product};

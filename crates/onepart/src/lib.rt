@@ -1,5 +1,7 @@
 // Banks of one part: any regulator or any clock.
 
+#![tactic(auto)]
+
 pub mod clock;
 pub mod rail;
 

@@ -1,4 +1,7 @@
 // A pair of banks: the second's parts are numbered after the first's, and those past 32 are not shown.
+
+#![tactic(auto)]
+
 ghost use Rattle.bank.specs.Banks.{pair_of};
 ghost use Rattle.std.specs.Prelude.{◌≡◌};
 ghost use Rattle.paired.specs.Pairs.{pair_sound};

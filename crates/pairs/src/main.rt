@@ -1,5 +1,8 @@
 // Reads a constraint table from standard input, judges every pair of its board's states, and prints how many states there
 // are, how many are lawful, and how many pairs are joined; or the number of its refusal.
+
+#![tactic(auto)]
+
 use answer::State;
 use bench::Line;
 use board::Board;

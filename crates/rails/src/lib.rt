@@ -1,4 +1,7 @@
 // The supplied rails. Each answers 'done' at every write there is. The facts that a kind keeps stand in its type.
+
+#![tactic(auto)]
+
 ghost use Rattle.std.specs.Prelude.{ℕ, ◌+◌, ◌-◌, ◌*◌, ◌<◌, ◌≤◌, vec_len, slice_index};
 
 use device::Code;

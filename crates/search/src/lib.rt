@@ -1,4 +1,7 @@
 // Graphs: all that a search sees of a board, or of a clock by itself.
+
+#![tactic(auto)]
+
 ghost use Rattle.std.specs.Prelude.{◌≡◌, ◌≤◌};
 ghost use Rattle.search.specs.Graphs.{GraphModel, Meaning, passing};
 

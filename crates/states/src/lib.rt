@@ -1,4 +1,7 @@
 // The states of two boards, compared with those that crates/states/make works out in another way.
+
+#![tactic(auto)]
+
 mod expected;
 
 #[cfg(test)]

@@ -1,4 +1,7 @@
 // The constraint table of a board: its bytes read record by record, and as a whole.
+
+#![tactic(auto)]
+
 pub mod bytes;
 mod first;
 pub mod kind;

@@ -6,8 +6,8 @@ use Rattle.bench.proofs.levels.add_parts.Goals as goal
 
 pub parts-preserved : goal.parts-preserved
 parts-preserved c =
-    parts_more part_figures _ (vec_items c.parts.lines) (vec_items c.add-codes.new.lines) c.parts-parts.result.now c.parts.number c.index-parts-number.result
-    c.parts-test.true c.index-parts-number.is c.parts.invariant c.in-ok-add-codes.ensures
+    parts_more part_figures _ (vec_items c.parts.lines) (vec_items c.add_codes.new.lines) c.parts-parts.result.now c.parts.number c.index-parts-number.result
+    c.parts-test.true c.index-parts-number.is c.parts.invariant c.in_ok-add_codes.ensures
 
 pub returns : goal.returns
 returns c =

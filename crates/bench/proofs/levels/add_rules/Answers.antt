@@ -6,7 +6,7 @@ use Rattle.bench.proofs.levels.add_rules.Goals as goal
 pub rules-preserved : goal.rules-preserved
 rules-preserved c =
     map_grows (λ r. Rule r) (vec_items c.args.lines.now) (vec_items c.rules.lines) (vec_items c.push.new.self) c.rules-rules.result.now c.rules.rule-index _
-    c.rules-test.true c.rules.invariant c.in-ok-push.ensures.items
+    c.rules-test.true c.rules.invariant c.in_ok-push.ensures.items
 
 pub returns : goal.returns
 returns c =

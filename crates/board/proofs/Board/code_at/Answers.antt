@@ -14,8 +14,8 @@ returns-then-part-parts g c =
       decoded = decoded m (g.met.B.Bank.sound b.bank) (vec_items b.rules) c.args.state;
     }
 
-pub nonzero-div-rest : goal.nonzero-div-rest
-nonzero-div-rest g c =
+pub nonzero_div-rest : goal.nonzero_div-rest
+nonzero_div-rest g c =
     let x = c.args.self.now.bank in
     let some = some_codes (g.B.Bank.model x) (g.met.B.Bank.sound x) c.parts.before (omega (arith, c.parts-2.ensures)) in
     omega (arith, c.count-rest.ensures)
@@ -24,8 +24,8 @@ pub parts-preserved : goal.parts-preserved
 parts-preserved g c =
     rest_next (counts (g.B.Bank.model c.args.self.now.bank)) c.args.state c.parts.before c.parts.rest c.count-rest.result c.parts.invariant c.count-rest.ensures
 
-pub nonzero-rem-result : goal.nonzero-rem-result
-nonzero-rem-result g c =
+pub nonzero_rem-result : goal.nonzero_rem-result
+nonzero_rem-result g c =
     let x = c.args.self.now.bank in
     let some = some_codes (g.B.Bank.model x) (g.met.B.Bank.sound x) c.args.part (omega (arith, c.parts-2.ensures)) in
     omega (arith, c.count.ensures)

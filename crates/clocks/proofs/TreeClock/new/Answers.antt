@@ -4,8 +4,8 @@ use Rattle.device.specs.Figures.{levels_ok}
 use Rattle.device.proofs.Levels.{levels_within}
 use Rattle.clocks.proofs.TreeClock.new.Goals as goal
 
-pub invariant-of-result : goal.invariant-of-result
-invariant-of-result c =
+pub invariant_of-result : goal.invariant_of-result
+invariant_of-result c =
     let xs = vec_items c.args.parents in
     let n = vec_len c.args.parents in
     let k = c.args.divisors in

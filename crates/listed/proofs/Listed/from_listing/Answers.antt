@@ -7,6 +7,6 @@ use Rattle.listed.proofs.Listed.from_listing.Goals as goal
 
 pub returns : goal.returns
 returns c =
-    let lists = c.into-lists-parts.ensures in
+    let lists = c.into_lists-parts.ensures in
     let same = ap (λ (v : Vec Part Global). bank_from (vec_items v)) lists.0 in
     record { bank = same; fresh = λ all. same ∙ fresh_bank (vec_items c.args.listing.parts) all; rules = lists.1 }

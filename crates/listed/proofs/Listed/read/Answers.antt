@@ -6,11 +6,11 @@ use Rattle.listed.proofs.Listed.read.Goals as goal
 
 pub returns : goal.returns
 returns c =
-    let r = c.in-ok-listing.ensures.read in
-    let made = c.from-listing.ensures in
+    let r = c.in_ok-listing.ensures.read in
+    let made = c.from_listing.ensures in
     record {
       records = r.records;
-      lists = lists_of c.in-ok-listing.listing;
+      lists = lists_of c.in_ok-listing.listing;
       listed = r.listed;
       bank = made.fresh r.fresh;
       ruled = ap (λ (v : Vec Rule Global). vec_items v) made.rules;

@@ -11,24 +11,24 @@ use Rattle.listing.specs.Listed.{lists_of}
 use Rattle.listing.proofs.Admits.{not_added, too_many, taken, product_taken}
 use Rattle.listing.proofs.Listing.add_part.Goals as goal
 
-pub returns-then-len-ge-MOST-PARTS : goal.returns-then-len-ge-MOST-PARTS
-returns-then-len-ge-MOST-PARTS c =
+pub returns-then-len-ge-MOST_PARTS : goal.returns-then-len-ge-MOST_PARTS
+returns-then-len-ge-MOST_PARTS c =
     let l = c.args.self.now in
     let v = l.parts in
     let n : c.len.result ≡ length (lists_of l).parts = c.len.ensures ∙ omega (arith, v.ok.0, length-map (vec_items v) part_figures) in
     let count : c.from.result ≡ codes_of (part_figures c.args.part) = c.from.ensures ∙ c.count.ensures in
-    let why = too_many (lists_of l) (part_figures c.args.part) c.len.result l.states c.from.result n l.counted count c.then-len-ge-MOST-PARTS.either in
+    let why = too_many (lists_of l) (part_figures c.args.part) c.len.result l.states c.from.result n l.counted count c.then-len-ge-MOST_PARTS.either in
     record { added = not_added _ TooMany c.args.number c.table.result c.table.ensures why; fresh = λ all _. all }
 
-pub invariant-of-self-2 : goal.invariant-of-self-2
-invariant-of-self-2 c =
+pub invariant_of-self-2 : goal.invariant_of-self-2
+invariant_of-self-2 c =
     let l = c.args.self.now in
     let v = l.parts in
     let n : c.len.result ≡ length (lists_of l).parts = c.len.ensures ∙ omega (arith, v.ok.0, length-map (vec_items v) part_figures) in
     let count : c.from.result ≡ codes_of (part_figures c.args.part) = c.from.ensures ∙ c.count.ensures in
     let pushed : map part_figures (vec_items c.push.new.self) ≡ (lists_of l).parts ++ part_figures c.args.part ∷ [] =
-    ap (map part_figures) c.in-ok-push.ensures.items ∙ map_push part_figures (vec_items v) c.args.part in
-    (omega (arith, c.in-ok-push.ensures.len), (l.ruled, (product_taken (lists_of l) (part_figures c.args.part) c.len.result l.states c.from.result n l.counted count _ pushed, (omega arith, tt))))
+    ap (map part_figures) c.in_ok-push.ensures.items ∙ map_push part_figures (vec_items v) c.args.part in
+    (omega (arith, c.in_ok-push.ensures.len), (l.ruled, (product_taken (lists_of l) (part_figures c.args.part) c.len.result l.states c.from.result n l.counted count _ pushed, (omega arith, tt))))
 
 pub returns : goal.returns
 returns c =
@@ -36,7 +36,7 @@ returns c =
     let v = l.parts in
     let n : c.len.result ≡ length (lists_of l).parts = c.len.ensures ∙ omega (arith, v.ok.0, length-map (vec_items v) part_figures) in
     let count : c.from.result ≡ codes_of (part_figures c.args.part) = c.from.ensures ∙ c.count.ensures in
-    let items = c.in-ok-push.ensures.items in
+    let items = c.in_ok-push.ensures.items in
     let pushed : map part_figures (vec_items c.push.new.self) ≡ (lists_of l).parts ++ part_figures c.args.part ∷ [] =
     ap (map part_figures) items ∙ map_push part_figures (vec_items v) c.args.part in
     record {

@@ -18,22 +18,22 @@ use Rattle.listing.proofs.Listing.read.Goals.{In-Some, In-default}
 -- the record at the cursor
 at_cursor : (c : In-Some) → Here c.args.table.now c.in-Some.placed c.records.reader.number c.records.reader.at c.next.new.self.number c.next.new.self.at
 at_cursor c =
-    here c.args.table.now c.records.reader.table.now c.in-ok-placed.field-0 c.in-Some.placed
+    here c.args.table.now c.records.reader.table.now c.in_ok-placed.field-0 c.in-Some.placed
     c.records.reader.number c.records.reader.at c.next.new.self.number c.next.new.self.at
-    (bytes_from c.args.table.now c.type-inv.table) c.records.invariant.0.same c.in-ok-placed.ensures.read c.in-Some.is
+    (bytes_from c.args.table.now c.type-inv.table) c.records.invariant.0.same c.in_ok-placed.ensures.read c.in-Some.is
 
 -- the whole table, read to its end
-at_end : (c : In-default) → walk admit 0 0 nothing c.args.table.now ≡ accepted c.records.reader.number (lists_of c.records.listing)
+at_end : (c : In_default) → walk admit 0 0 nothing c.args.table.now ≡ accepted c.records.reader.number (lists_of c.records.listing)
 at_end c =
-    way_all admit nothing c.args.table.now c.records.reader.table.now (lists_of c.records.listing) c.in-ok-placed.field-0
+    way_all admit nothing c.args.table.now c.records.reader.table.now (lists_of c.records.listing) c.in_ok-placed.field-0
     c.records.reader.number c.records.reader.at c.next.new.self.number c.next.new.self.at
-    c.records.invariant.0 c.in-ok-placed.ensures.read c.in-default.is
+    c.records.invariant.0 c.in_ok-placed.ensures.read c.in_default.is
 
 -- the reader stays where it is at the end
-moved_not : (c : In-default) → c.next.new.self.number ≡ c.records.reader.number
+moved_not : (c : In_default) → c.next.new.self.number ≡ c.records.reader.number
 moved_not c =
-    end_stays c.records.reader.table.now c.in-ok-placed.field-0 c.records.reader.number c.records.reader.at c.next.new.self.number c.next.new.self.at
-    c.in-ok-placed.ensures.read c.in-default.is
+    end_stays c.records.reader.table.now c.in_ok-placed.field-0 c.records.reader.number c.records.reader.at c.next.new.self.number c.next.new.self.at
+    c.in_ok-placed.ensures.read c.in_default.is
 
 pub records-init : goal.records-init
 records-init c = (
@@ -41,15 +41,15 @@ records-init c = (
   c.empty-listing.ensures.fresh,
 )
 
-pub returns-in-err-placed : goal.returns-in-err-placed
-returns-in-err-placed c =
+pub returns-in_err-placed : goal.returns-in_err-placed
+returns-in_err-placed c =
     let p = err_from_is_err_and c.from-residual.result c.from-residual.ensures.1 in
-    let f = c.in-err-placed.field-0.0 in
+    let f = c.in_err-placed.field-0.0 in
     let back : SentBack (listing c.args.table.now) f =
     listed_back c.args.table.now f
     (way_fault admit nothing c.args.table.now c.records.reader.table.now (lists_of c.records.listing)
     c.records.reader.number c.records.reader.at c.next.new.self.number c.next.new.self.at f
-    c.records.invariant.0 c.in-err-placed.ensures.read) in
+    c.records.invariant.0 c.in_err-placed.ensures.read) in
     rw (p.1, p.2) (record { read = back; exact = only_full c.args.table.now f back })
 
 pub add-requires : goal.add-requires
@@ -59,40 +59,40 @@ pub records-smaller : goal.records-smaller
 records-smaller c =
     here_less c.args.table.now c.records.reader.table.now c.next.new.self.table.now c.in-Some.placed
     c.records.reader.number c.records.reader.at c.next.new.self.number c.next.new.self.at
-    (at_cursor (goal.at.records-smaller c).In-Some) c.in-ok-placed.ensures.bytes c.next.new.self.inside
+    (at_cursor (goal.at.records-smaller c).In-Some) c.in_ok-placed.ensures.bytes c.next.new.self.inside
 
 pub records-preserved : goal.records-preserved
 records-preserved c = (
   way_more admit nothing c.args.table.now c.records.reader.table.now c.next.new.self.table.now (lists_of c.records.listing) (lists_of c.add.new.self) c.in-Some.placed
       c.records.reader.number c.records.reader.at c.next.new.self.number c.next.new.self.at
-      c.records.invariant.0 c.in-ok-placed.ensures.bytes (at_cursor (goal.at.records-preserved c).In-Some) c.in-ok-add.ensures.added,
-  c.in-ok-add.ensures.fresh c.records.invariant.1,
+      c.records.invariant.0 c.in_ok-placed.ensures.bytes (at_cursor (goal.at.records-preserved c).In-Some) c.in_ok-add.ensures.added,
+  c.in_ok-add.ensures.fresh c.records.invariant.1,
 )
 
-pub returns-in-err-add : goal.returns-in-err-add
-returns-in-err-add c =
-    let p = err_from_is_err_and c.from-residual-in-err-add.result c.from-residual-in-err-add.ensures.1 in
-    let f = c.in-err-add.field-0.0 in
+pub returns-in_err-add : goal.returns-in_err-add
+returns-in_err-add c =
+    let p = err_from_is_err_and c.from-residual-in_err-add.result c.from-residual-in_err-add.ensures.1 in
+    let f = c.in_err-add.field-0.0 in
     let back : SentBack (listing c.args.table.now) f =
-    elim c.in-err-add.ensures.added [
+    elim c.in_err-add.ensures.added [
       | inl memory ↦ inl memory
       | inr why ↦
           listed_back c.args.table.now f
           (way_not_added admit nothing c.args.table.now c.records.reader.table.now (lists_of c.records.listing) c.in-Some.placed
           c.records.reader.number c.records.reader.at c.next.new.self.number c.next.new.self.at f
-          c.records.invariant.0 (at_cursor (goal.at.returns-in-err-add c).In-Some) why.0 why.1)
+          c.records.invariant.0 (at_cursor (goal.at.returns-in_err-add c).In-Some) why.0 why.1)
     ] in
     rw (p.1, p.2) (record { read = back; exact = only_full c.args.table.now f back })
 
-pub returns-then-is-empty : goal.returns-then-is-empty
-returns-then-is-empty c =
+pub returns-then-is_empty : goal.returns-then-is_empty
+returns-then-is_empty c =
     let bs = c.args.table.now in
     let l = c.records.listing in
-    let items : length (vec_items l.parts) ≡ 0 = omega (arith, l.parts.ok.0, eqb-true (vec_len l.parts) 0 (sym c.if-is-empty.ensures)) in
+    let items : length (vec_items l.parts) ≡ 0 = omega (arith, l.parts.ok.0, eqb-true (vec_len l.parts) 0 (sym c.if-is_empty.ensures)) in
     let none : (lists_of l).parts ≡ [] = nil_from_length (lists_of l).parts (omega (arith, length-map (vec_items l.parts) part_figures)) in
     let back : SentBack (listing bs) c.table.result =
-    listed_none bs c.records.reader.number (lists_of l) c.table.result (at_end (goal.at.returns-then-is-empty c).In-default) none
-    (c.table.ensures ∙ ap (table_fault NoPart) (c.number.ensures ∙ moved_not (goal.at.returns-then-is-empty c).In-default)) in
+    listed_none bs c.records.reader.number (lists_of l) c.table.result (at_end (goal.at.returns-then-is_empty c).In_default) none
+    (c.table.ensures ∙ ap (table_fault NoPart) (c.number.ensures ∙ moved_not (goal.at.returns-then-is_empty c).In_default)) in
     record { read = back; exact = only_full bs c.table.result back }
 
 pub returns : goal.returns
@@ -100,8 +100,8 @@ returns c =
     let bs = c.args.table.now in
     let l = c.records.listing in
     let some : (length (lists_of l).parts ≡ 0 → ⊥) =
-    λ none. eqb-false (vec_len l.parts) 0 (sym c.if-is-empty.ensures) (omega (arith, l.parts.ok.0, length-map (vec_items l.parts) part_figures)) in
-    let read = at_end (goal.at.returns c).In-default in
+    λ none. eqb-false (vec_len l.parts) 0 (sym c.if-is_empty.ensures) (omega (arith, l.parts.ok.0, length-map (vec_items l.parts) part_figures)) in
+    let read = at_end (goal.at.returns c).In_default in
     record {
       read = record { records = c.records.reader.number; listed = listed bs c.records.reader.number (lists_of l) read some; fresh = c.records.invariant.1 };
       exact = board_table bs c.records.reader.number l (bytes_from bs c.type-inv.table) read some;

@@ -3,8 +3,8 @@ use Rattle.device.specs.Figures.{levels_ok}
 use Rattle.device.proofs.Levels.{levels_within}
 use Rattle.rails.proofs.TableRail.new.Goals as goal
 
-pub invariant-of-result : goal.invariant-of-result
-invariant-of-result c =
+pub invariant_of-result : goal.invariant_of-result
+invariant_of-result c =
     let xs = vec_items c.args.levels in
     let ok : levels_ok xs ≡ true = cc in
     (search rules, (search rules, ((λ k h. (levels_within xs ok k (search rules)).0), ((λ k h. (levels_within xs ok k (search rules)).1), (search rules, tt)))))

@@ -7,7 +7,7 @@ pub fours-preserved : goal.fours-preserved
 fours-preserved c =
     listed_more (vec_items c.fours.all) (vec_items c.push.new.self) c.fours.rest.now c.after-rest.result.now (words c.args.bytes.now)
     c.fours-test.true c.fours.invariant
-    (c.in-ok-push.ensures.items ∙ ap (λ x. vec_items c.fours.all ++ x ∷ []) c.word.ensures) c.after-rest.ensures
+    (c.in_ok-push.ensures.items ∙ ap (λ x. vec_items c.fours.all ++ x ∷ []) c.word.ensures) c.after-rest.ensures
 
 pub returns : goal.returns
 returns c = listed_all (vec_items c.fours.all) c.fours.rest.now (words c.args.bytes.now) c.fours-test.false c.fours.invariant

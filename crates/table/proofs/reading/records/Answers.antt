@@ -10,42 +10,42 @@ use Rattle.table.proofs.reading.records.Goals.{In-Some}
 -- the record at the cursor
 at_cursor : (c : In-Some) → Here c.args.table.now c.in-Some.one c.records.reader.number c.records.reader.at c.next.new.self.number c.next.new.self.at
 at_cursor c =
-    here c.args.table.now c.records.reader.table.now c.in-ok-one.field-0 c.in-Some.one
+    here c.args.table.now c.records.reader.table.now c.in_ok-one.field-0 c.in-Some.one
     c.records.reader.number c.records.reader.at c.next.new.self.number c.next.new.self.at
-    (bytes_from c.args.table.now c.type-inv.table) c.records.invariant.way.same c.in-ok-one.ensures.read c.in-Some.is
+    (bytes_from c.args.table.now c.type-inv.table) c.records.invariant.way.same c.in_ok-one.ensures.read c.in-Some.is
 
 pub records-init : goal.records-init
 records-init c =
     going_none c.args.table.now _ _ _ _ c.new-reader.ensures.bytes c.new-all.ensures.items c.new-reader.ensures.number c.new-reader.ensures.cursor
 
-pub returns-in-err-one : goal.returns-in-err-one
-returns-in-err-one c =
+pub returns-in_err-one : goal.returns-in_err-one
+returns-in_err-one c =
     let p = err_from_is_err_and c.from-residual.result c.from-residual.ensures.1 in
     let was = c.records.reader in
     let after = c.next.new.self in
     let back = going_fault c.args.table.now was.table.now (vec_items c.records.all) was.number was.at after.number after.at
-    c.in-err-one.field-0.0 c.records.invariant c.in-err-one.ensures.read in
-    rw (p.1, p.2) (record { read = back; exact = only_memory c.args.table.now c.in-err-one.field-0.0 back })
+    c.in_err-one.field-0.0 c.records.invariant c.in_err-one.ensures.read in
+    rw (p.1, p.2) (record { read = back; exact = only_memory c.args.table.now c.in_err-one.field-0.0 back })
 
 pub records-smaller : goal.records-smaller
 records-smaller c =
     let was = c.records.reader in
     let after = c.next.new.self in
     here_less c.args.table.now was.table.now after.table.now c.in-Some.one was.number was.at after.number after.at
-    (at_cursor (goal.at.records-smaller c).In-Some) c.in-ok-one.ensures.bytes after.inside
+    (at_cursor (goal.at.records-smaller c).In-Some) c.in_ok-one.ensures.bytes after.inside
 
 pub records-preserved : goal.records-preserved
 records-preserved c =
     let was = c.records.reader in
     let after = c.next.new.self in
     going_more c.args.table.now was.table.now after.table.now (vec_items c.records.all) (vec_items c.push.new.self) c.in-Some.one
-    was.number was.at after.number after.at c.records.invariant c.in-ok-one.ensures.bytes
-    (at_cursor (goal.at.records-preserved c).In-Some) c.in-ok-push.ensures.items
+    was.number was.at after.number after.at c.records.invariant c.in_ok-one.ensures.bytes
+    (at_cursor (goal.at.records-preserved c).In-Some) c.in_ok-push.ensures.items
 
 pub returns : goal.returns
 returns c =
     let was = c.records.reader in
     let after = c.next.new.self in
-    let read = going_all c.args.table.now was.table.now (vec_items c.records.all) c.in-ok-one.field-0
-    was.number was.at after.number after.at c.records.invariant c.in-ok-one.ensures.read c.in-default.is in
+    let read = going_all c.args.table.now was.table.now (vec_items c.records.all) c.in_ok-one.field-0
+    was.number was.at after.number after.at c.records.invariant c.in_ok-one.ensures.read c.in_default.is in
     record { read = read; exact = exactly c.args.table.now (vec_items c.records.all) (bytes_from c.args.table.now c.type-inv.table) read }

@@ -9,5 +9,5 @@ pub returns : goal.returns
 returns g c =
     let b = c.args.self.now in
     let l = layout_of (g.B.Bank.model b.bank) (vec_items b.rules) in
-    let e = c.is-lawful.ensures in
-    record { 0 = e; decides = Decides-at c.is-lawful.result (is_lawful l c.args.state) e (decides_lawful l c.args.state) }
+    let e = c.is_lawful.ensures in
+    record { 0 = e; decides = Decides-at c.is_lawful.result (is_lawful l c.args.state) e (decides_lawful l c.args.state) }

@@ -7,5 +7,5 @@ none_counted zero p = omega arith
 none_counted (suc n) zero = omega arith
 none_counted (suc n) (suc p) = none_counted n p
 
-pub invariant-of-result : goal.invariant-of-result
-invariant-of-result c = (refl, (none_counted 32, tt))
+pub invariant_of-result : goal.invariant_of-result
+invariant_of-result c = (refl, (none_counted 32, tt))
