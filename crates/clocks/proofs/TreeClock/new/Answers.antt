@@ -12,4 +12,12 @@ invariant_of-result c =
     let ok : levels_ok xs ≡ true = cc in
     let some : 1 ≤ n = search rules in
     let codes = mul-le 1 1 n k some (search rules) in
-    (search rules, (search rules, (some, (search rules, ((λ j h. (levels_within xs ok j (search rules)).0), ((λ j h. (levels_within xs ok j (search rules)).1), (omega arith, tt)))))))
+    record {
+      fewest = search rules;
+      most = search rules;
+      some = some;
+      few = search rules;
+      low = λ j h. (levels_within xs ok j (search rules)).0;
+      high = λ j h. (levels_within xs ok j (search rules)).1;
+      within = omega arith;
+    }

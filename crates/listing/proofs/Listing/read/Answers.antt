@@ -20,7 +20,7 @@ at_cursor : (c : In-Some) → Here c.args.table.now c.in-Some.placed c.records.r
 at_cursor c =
     here c.args.table.now c.records.reader.table.now c.in_ok-placed.field-0 c.in-Some.placed
     c.records.reader.number c.records.reader.at c.next.new.self.number c.next.new.self.at
-    (bytes_from c.args.table.now c.type-inv.table) c.records.invariant.0.same c.in_ok-placed.ensures.read c.in-Some.is
+    (bytes_from c.args.table.now c.type_inv.table) c.records.invariant.0.same c.in_ok-placed.ensures.read c.in-Some.is
 
 -- the whole table, read to its end
 at_end : (c : In_default) → walk admit 0 0 nothing c.args.table.now ≡ accepted c.records.reader.number (lists_of c.records.listing)
@@ -43,7 +43,7 @@ records-init c = (
 
 pub returns-in_err-placed : goal.returns-in_err-placed
 returns-in_err-placed c =
-    let p = err_from_is_err_and c.from-residual.result c.from-residual.ensures.1 in
+    let p = err_from_is_err_and c.from_residual.result c.from_residual.ensures.1 in
     let f = c.in_err-placed.field-0.0 in
     let back : SentBack (listing c.args.table.now) f =
     listed_back c.args.table.now f
@@ -71,7 +71,7 @@ records-preserved c = (
 
 pub returns-in_err-add : goal.returns-in_err-add
 returns-in_err-add c =
-    let p = err_from_is_err_and c.from-residual-in_err-add.result c.from-residual-in_err-add.ensures.1 in
+    let p = err_from_is_err_and c.from_residual-in_err-add.result c.from_residual-in_err-add.ensures.1 in
     let f = c.in_err-add.field-0.0 in
     let back : SentBack (listing c.args.table.now) f =
     elim c.in_err-add.ensures.added [
@@ -104,5 +104,5 @@ returns c =
     let read = at_end (goal.at.returns c).In_default in
     record {
       read = record { records = c.records.reader.number; listed = listed bs c.records.reader.number (lists_of l) read some; fresh = c.records.invariant.1 };
-      exact = board_table bs c.records.reader.number l (bytes_from bs c.type-inv.table) read some;
+      exact = board_table bs c.records.reader.number l (bytes_from bs c.type_inv.table) read some;
     }

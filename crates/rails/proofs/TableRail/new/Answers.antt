@@ -7,4 +7,10 @@ pub invariant_of-result : goal.invariant_of-result
 invariant_of-result c =
     let xs = vec_items c.args.levels in
     let ok : levels_ok xs ≡ true = cc in
-    (search rules, (search rules, ((λ k h. (levels_within xs ok k (search rules)).0), ((λ k h. (levels_within xs ok k (search rules)).1), (search rules, tt)))))
+    record {
+      some = search rules;
+      few = search rules;
+      low = λ k h. (levels_within xs ok k (search rules)).0;
+      high = λ k h. (levels_within xs ok k (search rules)).1;
+      within = search rules;
+    }

@@ -9,7 +9,7 @@ returns-then-in_range c = (
       (omega arith) c.if-not-holds.ensures (omega arith) refl c.decode-record.ensures.held c.if-in_range.ensures,
   omega arith,
   omega arith,
-  c.decode-record.ensures.own_val,
+  c.decode-record.ensures.own,
 )
 
 pub returns-else-in_range : goal.returns-else-in_range

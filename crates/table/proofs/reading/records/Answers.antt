@@ -12,7 +12,7 @@ at_cursor : (c : In-Some) → Here c.args.table.now c.in-Some.one c.records.read
 at_cursor c =
     here c.args.table.now c.records.reader.table.now c.in_ok-one.field-0 c.in-Some.one
     c.records.reader.number c.records.reader.at c.next.new.self.number c.next.new.self.at
-    (bytes_from c.args.table.now c.type-inv.table) c.records.invariant.way.same c.in_ok-one.ensures.read c.in-Some.is
+    (bytes_from c.args.table.now c.type_inv.table) c.records.invariant.way.same c.in_ok-one.ensures.read c.in-Some.is
 
 pub records-init : goal.records-init
 records-init c =
@@ -20,7 +20,7 @@ records-init c =
 
 pub returns-in_err-one : goal.returns-in_err-one
 returns-in_err-one c =
-    let p = err_from_is_err_and c.from-residual.result c.from-residual.ensures.1 in
+    let p = err_from_is_err_and c.from_residual.result c.from_residual.ensures.1 in
     let was = c.records.reader in
     let after = c.next.new.self in
     let back = going_fault c.args.table.now was.table.now (vec_items c.records.all) was.number was.at after.number after.at
@@ -48,4 +48,4 @@ returns c =
     let after = c.next.new.self in
     let read = going_all c.args.table.now was.table.now (vec_items c.records.all) c.in_ok-one.field-0
     was.number was.at after.number after.at c.records.invariant c.in_ok-one.ensures.read c.in_default.is in
-    record { read = read; exact = exactly c.args.table.now (vec_items c.records.all) (bytes_from c.args.table.now c.type-inv.table) read }
+    record { read = read; exact = exactly c.args.table.now (vec_items c.records.all) (bytes_from c.args.table.now c.type_inv.table) read }
