@@ -33,7 +33,7 @@ impl<C: Clock> Graph for CappedClock<C> {
     ghost meaning = { λ x.
         let d = C.Clock.model x.clock in
         let sound = C.Clock.sound x.clock in
-        guarded d.count (under-cap d x.«cap») d.linked (omega (arith, sound.few))
+        guarded d.count (under_cap d x.«cap») d.linked (omega (arith, sound.few))
         (λ s h. ltb-true s d.count (and_parts (nat_lt s d.count) (nat_le (d.level s) x.«cap») h).0)
         sound.symmetric sound.different };
 

@@ -28,7 +28,12 @@ invariant_of-self-2 c =
     let count : c.from.result ≡ codes_of (part_figures c.args.part) = c.from.ensures ∙ c.count.ensures in
     let pushed : map part_figures (vec_items c.push.new.self) ≡ (lists_of l).parts ++ part_figures c.args.part ∷ [] =
     ap (map part_figures) c.in_ok-push.ensures.items ∙ map_push part_figures (vec_items v) c.args.part in
-    (omega (arith, c.in_ok-push.ensures.len), (l.ruled, (product_taken (lists_of l) (part_figures c.args.part) c.len.result l.states c.from.result n l.counted count _ pushed, (omega arith, tt))))
+    record {
+      few = omega (arith, c.in_ok-push.ensures.len);
+      ruled = l.ruled;
+      counted = product_taken (lists_of l) (part_figures c.args.part) c.len.result l.states c.from.result n l.counted count _ pushed;
+      bounded = omega arith;
+    }
 
 pub returns : goal.returns
 returns c =

@@ -13,7 +13,7 @@ use Rattle.table.proofs.LittleEndian.{bytes_from}
 use Rattle.table.proofs.OnTheWay.{Here, here, here_less, way_none, way_more, way_all, way_fault, way_not_added, end_stays}
 use Rattle.listing.proofs.Whole.{listed, listed_none, listed_back, board_table, only_full}
 use Rattle.listing.proofs.Listing.read.Goals as goal
-use Rattle.listing.proofs.Listing.read.Goals.{In-Some, In-default}
+use Rattle.listing.proofs.Listing.read.Goals.{In-Some, In_default}
 
 -- the record at the cursor
 at_cursor : (c : In-Some) → Here c.args.table.now c.in-Some.placed c.records.reader.number c.records.reader.at c.next.new.self.number c.next.new.self.at
