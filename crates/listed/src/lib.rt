@@ -6,7 +6,7 @@ ghost use Rattle.std.specs.Prelude.{◌≤◌, vec_len};
 
 use listing::Part;
 
-pub mod bank;
+pub mod questions;
 pub mod read;
 pub mod set;
 

@@ -11,10 +11,10 @@ parts-preserved c =
     let qs = vec_items v in
     let k = c.parts.place in
     let asked = c.index.result.now in
-    let x = c.index-mut.result.now in
+    let x = c.index_mut.result.now in
     let h : k < length qs = omega (arith, v.ok.0, c.parts.invariant.long, c.args.self.now.parts.ok.0) in
-    let same : asked ≡ x = get_or_read qs k asked h c.index.ensures x ∙ sym c.index-mut.ensures.value in
-    putting_more (vec_items c.args.self.now.parts) c.args.state k qs c.parts.rest c.count-count.result x c.set.new.self h c.index-mut.ensures.value
+    let same : asked ≡ x = get_or_read qs k asked h c.index.ensures x ∙ sym c.index_mut.ensures.value in
+    putting_more (vec_items c.args.self.now.parts) c.args.state k qs c.parts.rest c.count-count.result x c.set.new.self h c.index_mut.ensures.value
     (c.count-count.ensures ∙ ap (λ (p : Part). (part_model p).count) same) c.set.ensures.kind c.set.ensures.put c.parts.invariant
 
 pub returns : goal.returns

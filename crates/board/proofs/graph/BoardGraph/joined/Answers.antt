@@ -10,4 +10,4 @@ returns g c =
     let b = c.args.self.now in
     let l = layout_of (g.B.Bank.model b.bank) (vec_items b.rules) in
     let e = c.are_joined.ensures in
-    record { 0 = e; decides = Decides-at c.are_joined.result (are_joined l c.args.from c.args.to) e (decides_joined l c.args.from c.args.to) }
+    record { value = e; decides = Decides-at c.are_joined.result (are_joined l c.args.from c.args.to) e (decides_joined l c.args.from c.args.to) }

@@ -10,4 +10,4 @@ returns g c =
     let b = c.args.self.now in
     let l = layout_of (g.B.Bank.model b.bank) (vec_items b.rules) in
     let e = c.is_lawful.ensures in
-    record { 0 = e; decides = Decides-at c.is_lawful.result (is_lawful l c.args.state) e (decides_lawful l c.args.state) }
+    record { value = e; decides = Decides-at c.is_lawful.result (is_lawful l c.args.state) e (decides_lawful l c.args.state) }

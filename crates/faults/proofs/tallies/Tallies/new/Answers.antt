@@ -8,4 +8,4 @@ none_counted (suc n) zero = omega arith
 none_counted (suc n) (suc p) = none_counted n p
 
 pub invariant_of-result : goal.invariant_of-result
-invariant_of-result c = (refl, (none_counted 32, tt))
+invariant_of-result c = record { room = refl; counted = none_counted 32 }
