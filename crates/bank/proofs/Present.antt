@@ -1,5 +1,5 @@
 -- Only parts that a bank has can be written.
-use Rattle.std.proofs.Common.{◌≡◌, ℕ, ◌<◌, true, false, sym, ap, ◌∙◌, inl, inr}
+use Rattle.std.proofs.Common.{◌≡◌, ℕ, ◌<◌, true, sym, ap, ◌∙◌, inl, inr}
 use Rattle.std.proofs.lemmas.Bool.{cases_lt, false≢true}
 use Rattle.device.specs.Device.{Device}
 use Rattle.bank.specs.Banks.{BankModel, Sound}

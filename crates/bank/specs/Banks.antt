@@ -1,10 +1,10 @@
 -- What a bank of parts means, and what a write does to it. A part is a device, numbered from 0, and its kind.
 --   BankModel   a bank as its questions tell it
---   Sound        what every bank keeps
---   Written      what one write to a part does, whatever the bank answers
---   Willing      the bank never balks
---   one_part     a bank of one part
---   pair_of      the parts of a second bank numbered after those of a first
+--   Sound       what every bank keeps
+--   Written     what one write to a part does, whatever the bank answers
+--   Willing     the bank never balks
+--   one_part    a bank of one part
+--   pair_of     the parts of a second bank numbered after those of a first
 use Rattle.std.specs.Prelude.{◌≡◌, ℕ, ◌+◌, ◌-◌, ◌<◌, ◌≤◌, min, cond, ◌==◌, ◌≢◌, nat_lt}
 use Rattle.device.specs.Device.{Device, any_two, no_device}
 use Rattle.device.specs.Device as device

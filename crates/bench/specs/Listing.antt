@@ -1,8 +1,8 @@
 -- What the listing of a table prints.
---   below         a line for each number below a bound, in order
---   code_lines    the codes of a part with their levels
---   part_lines    the codes of all parts, from a part number on
---   lines_of      the lines for what a table lists, or for why it is sent back
+--   below        a line for each number below a bound, in order
+--   code_lines   the codes of a part with their levels
+--   part_lines   the codes of all parts, from a part number on
+--   lines_of     the lines for what a table lists, or for why it is sent back
 use Rattle.std.specs.Prelude.{ℕ, zero, suc, ◌+◌, List, [], ◌∷◌, ◌++◌, map}
 use Rattle.device.specs.Figures.{Figures, kind_of, codes_of, level_of}
 use Rattle.listing.specs.Lists.{Lists}

@@ -1,7 +1,7 @@
 -- Joined states: the test says what is meant, and the relation is symmetric.
-use Rattle.std.specs.Prelude.{◌≡◌, ℕ, ◌+◌, ◌-◌, ◌<◌, ◌≤◌, Bool, true, false, cond, ◌&&◌, List, [], ◌∷◌, Decides, ◌==◌, ◌≢◌, nat_le, nat_lt}
+use Rattle.std.specs.Prelude.{◌≡◌, ℕ, ◌-◌, ◌≤◌, Bool, true, cond, ◌&&◌, List, [], ◌∷◌, Decides, ◌==◌, ◌≢◌, nat_le, nat_lt}
 use Rattle.std.proofs.Math.Path.{refl, sym, ap}
-use Rattle.std.proofs.Common.{ap₂, subst, ◌∙◌, inl, inr, arith, add_comm}
+use Rattle.std.proofs.Common.{ap₂, ◌∙◌, inl, inr, arith, add_comm}
 use Rattle.std.proofs.lemmas.Bool.{and_parts, and_from, cases_lt, false≢true, ltb-true}
 use Rattle.device.specs.Device.{Device}
 use Rattle.device.specs.Every.{every}
@@ -13,8 +13,8 @@ use Rattle.bank.specs.Banks.{BankModel, Sound}
 use Rattle.bank.specs.States.{digit}
 use Rattle.board.specs.Boards.{board_graph}
 use Rattle.board.specs.Layouts.{Layout, layout_of, states_of, code_at, level_at}
-use Rattle.board.specs.Lawfulness.{apart, holds, is_lawful}
-use Rattle.board.specs.Joining.{allows, one_write, change, adjacent, are_joined, Joined, JoinedBy}
+use Rattle.board.specs.Lawfulness.{holds, is_lawful}
+use Rattle.board.specs.Joining.{allows, one_write, change, adjacent, are_joined, Joined}
 use Rattle.board.specs.declared.change.Change.{Change}
 use Rattle.board.specs.declared.change.Change.TheVariants.{Same, Only, Several}
 use Rattle.board.specs.Changes.{just_one, one_change, same_agree, change_turned}

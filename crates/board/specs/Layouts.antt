@@ -1,7 +1,7 @@
 -- A board as no write changes it: a bank's parts with their codes, levels and one_write relations, and the rules.
 --   Layout       the parts and the rules
 --   layout_of    the layout of a bank under some rules
---   NoDefect    what a board without a defect has
+--   NoDefect     what a board without a defect has
 --   verdict_of   the number of states, or the first defect: 7 no part, 5 too many, 6 a rule that names no fitting part
 --   states_of    the number of states, 0 with a defect
 --   code_at      the code of a part in a state

@@ -1,7 +1,7 @@
 -- Where a write leaves a board.
---   Lands       the state after a write between two joined states, by the answer
+--   Lands      the state after a write between two joined states, by the answer
 --   OneDigit   a write changes the state number in just the digit of its part
---   Moved       a write between joined states leaves the board at one of the two, and so lawful
+--   Moved      a write between joined states leaves the board at one of the two, and so lawful
 use Rattle.std.specs.Prelude.{◌≡◌, ℕ, ◌+◌, ◌*◌, ◌<◌, ◌⊎◌, List, ◌≢◌}
 use Rattle.device.specs.declared.answers.Answer.{Answer}
 use Rattle.device.specs.declared.answers.Answer.TheVariants.{Done, Balked, Unsure, NoSuchWrite}

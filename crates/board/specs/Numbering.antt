@@ -1,14 +1,14 @@
 -- The numbers of a board's states.
-use Rattle.std.specs.Prelude.{◌≡◌, ℕ, zero, suc, ◌+◌, ◌*◌, ◌/◌, ◌%◌, ◌<◌, ◌≤◌, true, false, cond, List, nat_lt, refl}
+use Rattle.std.specs.Prelude.{◌≡◌, ℕ, ◌+◌, ◌*◌, ◌/◌, ◌%◌, ◌<◌, ◌≤◌, List, nat_lt}
 use Rattle.std.proofs.Common.{sym, ap, ap₂, ◌∙◌, arith, add-one}
 use Rattle.std.proofs.lemmas.Nat.{mul-le}
-use Rattle.std.proofs.lemmas.Bool.{cond-true, cond-false, lt-ltb, le-ltb}
+use Rattle.std.proofs.lemmas.Bool.{cond-true, lt-ltb}
 use Rattle.table.specs.declared.rule.Rule.{Rule}
 use Rattle.bank.specs.Banks.{BankModel, Sound}
 use Rattle.bank.specs.States.{weight, number, digit, counts}
 use Rattle.bank.proofs.Digits.{weight_grows, number_below, number_same, number_digit, digit_number, digit_below, rest_more}
 use Rattle.board.specs.Boards.{Numbered, Decoded}
-use Rattle.board.specs.Layouts.{Layout, layout_of, states_of, code_at, state_by, present}
+use Rattle.board.specs.Layouts.{Layout, layout_of, code_at}
 use Rattle.board.specs.Verdicts.{Flawless, flawless, states_are}
 
 -- the code of a part that is there

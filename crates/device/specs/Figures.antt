@@ -1,12 +1,12 @@
 -- The four supplied kinds of devices, by the figures that they are made from.
---   Figures      the figures of a device, by kind
---   kind_of      whether these are the figures of a rail or of a clock
---   codes_of     how many codes a device of these figures has
---   level_of     code to level: the conversion of each kind
---   linked_of    which codes one write joins
---   cause_of     why a device of these figures is refused: a list of a wrong length before a figure out of range
---   device_of    the device with these figures, at a present code and a tally
---   Made         what a constructor answers
+--   Figures     the figures of a device, by kind
+--   kind_of     whether these are the figures of a rail or of a clock
+--   codes_of    how many codes a device of these figures has
+--   level_of    code to level: the conversion of each kind
+--   linked_of   which codes one write joins
+--   cause_of    why a device of these figures is refused: a list of a wrong length before a figure out of range
+--   device_of   the device with these figures, at a present code and a tally
+--   Made        what a constructor answers
 use Rattle.std.specs.Prelude.{◌≡◌, ℕ, ◌+◌, ◌-◌, ◌*◌, ◌/◌, ◌%◌, Bool, true, cond, ◌&&◌, ◌||◌, List, [], ◌∷◌, length, Some, None, Ok, Err, Option, Result, ◌==◌, nat_le, nat_lt, slice_index}
 use Rattle.answer.specs.declared.refusal.Refusal.{Refusal}
 use Rattle.answer.specs.declared.refusal.Refusal.TheVariants.{WrongLength, OutOfRange}

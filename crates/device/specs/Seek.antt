@@ -1,9 +1,9 @@
 -- What a search for a level in a window answers: a code, or none.
---   Lies         a code below a bound has its level from low to high
---   Best         the lowest code of the lowest level in the window
---   Found        what is found among the codes below a bound
---   Sought       what is found among all codes of a device
---   Returned     a code that is no higher than another and has its level
+--   Lies        a code below a bound has its level from low to high
+--   Best        the lowest code of the lowest level in the window
+--   Found       what is found among the codes below a bound
+--   Sought      what is found among all codes of a device
+--   Returned    a code that is no higher than another and has its level
 --   RoundTrip   seeking exactly the level of a code finds that level again
 use Rattle.std.specs.Prelude.{◌≡◌, ℕ, ◌<◌, ◌≤◌, Some, None, Option, ◌≢◌}
 use Rattle.device.specs.Device.{Device}

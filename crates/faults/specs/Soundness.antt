@@ -1,6 +1,6 @@
 -- A bank with tallies of its own keeps what every bank keeps.
-use Rattle.std.specs.Prelude.{◌≡◌, ℕ, ◌^◌, ◌<◌, ◌≤◌, cond, List, nat_lt, slice_index}
-use Rattle.std.proofs.Common.{ap, ap₂, ◌∙◌, arith}
+use Rattle.std.specs.Prelude.{ℕ, ◌^◌, ◌<◌, List, nat_lt, slice_index}
+use Rattle.std.proofs.Common.{ap₂, arith}
 use Rattle.std.proofs.lemmas.Bool.{cond_both, cond-false, le-ltb}
 use Rattle.device.specs.Device.{Device, no_device}
 use Rattle.device.specs.Device as device

@@ -1,6 +1,6 @@
 -- The bank that a list of figures makes.
---   at_or      what stands at a place of a list, or something else past its end
---   bank_of    a bank of parts with these figures, each as it is made
+--   at_or     what stands at a place of a list, or something else past its end
+--   bank_of   a bank of parts with these figures, each as it is made
 use Rattle.std.specs.Prelude.{ℕ, zero, suc, List, [], ◌∷◌, length}
 use Rattle.device.specs.Device.{no_device}
 use Rattle.device.specs.Figures.{Figures, kind_of, device_of}

@@ -1,10 +1,10 @@
 -- The listed bank.
---   bank_from    the bank that a list of parts is
---   Shows        what is told of a part that is looked up
---   Put          each part put on its code of a state
+--   bank_from   the bank that a list of parts is
+--   Shows       what is told of a part that is looked up
+--   Put         each part put on its code of a state
 --   SetTo       the bank put on a state that it has
 --   CameFrom    the bank and the rules that the bytes of a table list
-use Rattle.std.specs.Prelude.{◌≡◌, ℕ, ◌<◌, List, length, Some, None, vec_items, Option}
+use Rattle.std.specs.Prelude.{◌≡◌, ℕ, ◌<◌, List, length, Some, None, Option}
 use Rattle.std.specs.Borrow.{Bor}
 use Rattle.device.specs.Device.{no_device, set_on}
 use Rattle.device.specs.Figures.{kind_of}

@@ -14,7 +14,6 @@ use Rattle.listing.specs.Parts.{part_figures, part_model}
 use Rattle.listing.specs.declared.part.Part.{Part}
 use Rattle.listing.proofs.PartDevices.{part_sound, part_there, rail_free}
 use Rattle.bank.specs.Banks.{Sound, Written, Willing}
-use Rattle.listed.specs.Figured.{at_or}
 use Rattle.listed.specs.Listing.{bank_from}
 use Rattle.listed.specs.Lookups.{at_there, at_past, at_set_same, at_set_other}
 

@@ -2,8 +2,7 @@
 use Rattle.std.proofs.Common.{◌≡◌, ℕ, refl, arith}
 use Rattle.device.specs.Device.{Sound, any_two}
 use Rattle.device.specs.Figures.{kind_of}
-use Rattle.device.specs.declared.kind.Kind.{Kind}
-use Rattle.device.specs.declared.kind.Kind.TheVariants.{Rail, Clock, Absent}
+use Rattle.device.specs.declared.kind.Kind.TheVariants.{Rail, Absent}
 use Rattle.rails.specs.Sounds.{linear_sound, table_sound}
 use Rattle.clocks.specs.Sounds.{divider_sound, tree_sound}
 use Rattle.listing.specs.Parts.{part_figures, part_model}

@@ -1,10 +1,10 @@
 -- What the reading of a whole table answers.
 --   lists_of     the parts' figures and the rules of a listing
---   AllFresh    every part as it was made
+--   AllFresh     every part as it was made
 --   Read         the listing is what the bytes list
---   BoardTable  the bytes are those of records that make the table of a board, and these are listed
---   OnlyFull    such bytes are sent back only for want of memory
---   NotAdded    a record that is not taken in
+--   BoardTable   the bytes are those of records that make the table of a board, and these are listed
+--   OnlyFull     such bytes are sent back only for want of memory
+--   NotAdded     a record that is not taken in
 use Rattle.std.specs.Prelude.{◌≡◌, ℕ, ◌⊎◌, List, map, Err, vec_items, Result}
 use Rattle.std.specs.List.{AllByRecursion as All}
 use Rattle.answer.specs.declared.refusal.Refusal.{Refusal}

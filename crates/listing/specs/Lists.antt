@@ -1,11 +1,11 @@
 -- What a whole table lists, and when its records make the table of a board.
---   Lists      the parts and the rules of a table, each in order
---   product    the product of the parts' counts
---   kind_at    the kind of a part by its number
---   admit      a record taken in, or the reason why not
---   listing    what the bytes of a table list, or why and where it is sent back
---   Names      a rule names parts that are there, of the right kind
---   Fits       records that make the table of a board
+--   Lists     the parts and the rules of a table, each in order
+--   product   the product of the parts' counts
+--   kind_at   the kind of a part by its number
+--   admit     a record taken in, or the reason why not
+--   listing   what the bytes of a table list, or why and where it is sent back
+--   Names     a rule names parts that are there, of the right kind
+--   Fits      records that make the table of a board
 use Rattle.std.specs.Prelude.{◌≡◌, ℕ, zero, suc, ◌*◌, ◌≤◌, Bool, true, false, cond, not, ◌&&◌, List, [], ◌∷◌, ◌++◌, length, Ok, Err, Result, ◌==◌, ◌≢◌, nat_le, nat_lt}
 use Rattle.answer.specs.declared.refusal.Refusal.{Refusal}
 use Rattle.answer.specs.declared.refusal.Refusal.TheVariants.{TooMany, WrongPart, NoPart}

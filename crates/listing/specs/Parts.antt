@@ -1,7 +1,7 @@
 -- A part of a board: one of the supplied devices.
---   part_figures   the figures that a part was made from
---   part_register  its present code and its tally
---   part_model     the device that a part is
+--   part_figures    the figures that a part was made from
+--   part_register   its present code and its tally
+--   part_model      the device that a part is
 use Rattle.device.specs.Device.{Device}
 use Rattle.device.specs.Figures.{Figures, device_of}
 use Rattle.rails.specs.Supplied.{linear_figures, table_figures}

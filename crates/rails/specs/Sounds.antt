@@ -1,5 +1,5 @@
 -- Each supplied rail keeps what every device keeps.
-use Rattle.std.specs.Prelude.{◌-◌, ◌<◌, ◌≤◌, length, vec_items, vec_len}
+use Rattle.std.specs.Prelude.{◌-◌, ◌<◌, ◌≤◌, vec_len}
 use Rattle.std.proofs.Common.{arith, mul-le-mul_right}
 use Rattle.device.specs.Device.{Sound}
 use Rattle.device.proofs.Soundness.{device_sound}

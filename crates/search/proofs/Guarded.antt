@@ -1,5 +1,5 @@
 -- A symmetric relation between different states, kept to lawful ones, makes a graph.
-use Rattle.std.proofs.Common.{◌≡◌, ℕ, ◌<◌, ◌≤◌, Bool, true, false, ◌&&◌, refl, ◌∙◌, ap₂}
+use Rattle.std.proofs.Common.{◌≡◌, ℕ, ◌<◌, ◌≤◌, Bool, true, false, ◌&&◌, refl, ap₂}
 use Rattle.std.proofs.lemmas.Bool.{and_parts}
 use Rattle.search.specs.Graphs.{Meaning}
 

@@ -1,7 +1,7 @@
 -- What a search sees: states, which of them are lawful, and which two are joined.
 --   GraphModel   a graph as its questions tell it
---   Meaning       what every graph keeps
---   passing       how many numbers below a bound pass a test
+--   Meaning      what every graph keeps
+--   passing      how many numbers below a bound pass a test
 use Rattle.std.specs.Prelude.{◌≡◌, ℕ, zero, suc, ◌+◌, ◌<◌, ◌≤◌, Bool, true, cond, ◌≢◌}
 
 -- a graph: how many states it has, which are lawful, which two one write joins

@@ -1,7 +1,7 @@
 -- What the reading of a whole table answers.
---   PlacedFrom     records at their numbers and offsets
---   SentBack       a fault, against the definition of what is read
---   RecordsRead    the records answered are those that the bytes are read as
+--   PlacedFrom            records at their numbers and offsets
+--   SentBack              a fault, against the definition of what is read
+--   RecordsRead           the records answered are those that the bytes are read as
 --   Exactly, OnlyMemory   accepted exactly when the bytes are those of records in range, and then just these are answered
 use Rattle.std.specs.Prelude.{◌≡◌, ℕ, ◌+◌, ◌⊎◌, List, [], ◌∷◌, map, length}
 use Rattle.answer.specs.declared.fault.Fault.{Fault}

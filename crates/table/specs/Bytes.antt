@@ -1,8 +1,8 @@
 -- Numbers in bytes, the lowest byte first.
---   field    the number that stands in some bytes from a place on
---   le       a number in that many bytes
---   words    the numbers of four bytes each that a list of bytes holds
---   Bytes    a list of bytes
+--   field   the number that stands in some bytes from a place on
+--   le      a number in that many bytes
+--   words   the numbers of four bytes each that a list of bytes holds
+--   Bytes   a list of bytes
 use Rattle.std.specs.Prelude.{ℕ, zero, suc, ◌+◌, ◌*◌, ◌/◌, ◌%◌, ◌<◌, List, [], ◌∷◌, slice_index}
 
 -- the number in w bytes from the place on, the lowest byte first; a byte past the end counts 0

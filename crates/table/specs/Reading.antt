@@ -1,8 +1,8 @@
 -- What the bytes of a table say, record by record.
---   Front       what stands at the front of some bytes
---   front       the checks of one record, in their order
---   Verdict     a table accepted, or sent back at a record
---   walk        the reading of a whole table: each record is handed on as it is read
+--   Front     what stands at the front of some bytes
+--   front     the checks of one record, in their order
+--   Verdict   a table accepted, or sent back at a record
+--   walk      the reading of a whole table: each record is handed on as it is read
 use Rattle.std.specs.Prelude.{ℕ, zero, suc, ◌+◌, ◌-◌, cond, ◌&&◌, List, [], ◌∷◌, length, take, drop, Some, None, Ok, Err, Option, Result, ◌==◌, nat_le, nat_lt}
 use Rattle.answer.specs.declared.refusal.Refusal.{Refusal}
 use Rattle.answer.specs.declared.refusal.Refusal.TheVariants.{Truncated, UnknownKind, WrongLength, OutOfRange}

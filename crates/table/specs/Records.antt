@@ -1,11 +1,11 @@
 -- The records of a table, and their bytes.
---   Rec          a record: a part with its figures, or a rule
---   record_kind  its kind
---   body_of      the bytes of its body
---   encode       its bytes: length, kind, body
---   decode       the record that a body of a kind holds
---   figures_ok   every figure in its range
---   in_range     every figure in its range, and lists of a length that the kind has
+--   Rec           a record: a part with its figures, or a rule
+--   record_kind   its kind
+--   body_of       the bytes of its body
+--   encode        its bytes: length, kind, body
+--   decode        the record that a body of a kind holds
+--   figures_ok    every figure in its range
+--   in_range      every figure in its range, and lists of a length that the kind has
 use Rattle.std.specs.Prelude.{ℕ, ◌+◌, Bool, ◌&&◌, List, ◌++◌, length, drop, nat_le, nat_lt}
 use Rattle.std.specs.List.{flat_map}
 use Rattle.device.specs.Figures.{Figures, linear, listed, divider, tree, length_ok, ranged}

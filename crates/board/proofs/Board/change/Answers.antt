@@ -1,6 +1,5 @@
-use Rattle.std.proofs.Common.{◌≡◌, ◌+◌, sym, ◌∙◌, arith}
+use Rattle.std.proofs.Common.{◌+◌, sym, arith}
 use Rattle.bank.specs.States.{counts}
-use Rattle.board.specs.Joining.{change}
 use Rattle.board.specs.declared.change.Change.TheVariants.{Several}
 use Rattle.board.specs.Numbering.{rest_next}
 use Rattle.board.specs.Changes.{change_more, several_stays}
