@@ -6,7 +6,7 @@
 --   Allows       a step rule allows the write
 --   Joined       two states are joined
 use Rattle.std.specs.Prelude.{◌≡◌, ℕ, zero, suc, ◌<◌, Bool, true, false, cond, ◌&&◌, ◌==◌, ◌≢◌, nat_le}
-use Rattle.std.specs.List.{AllByRecursion as All}
+use Rattle.std.specs.List.{AllByRecursion}
 use Rattle.device.specs.Every.{every}
 use Rattle.table.specs.declared.rule.Rule.{Rule}
 use Rattle.table.specs.declared.rule.Rule.TheVariants.{Window, Spread, Step, Need, Cap}
@@ -68,7 +68,7 @@ pub record JoinedBy (l : Layout) (s t p : ℕ) : Type 0 where
   pub alike : (q : ℕ) → q < l.parts → (q ≢ p) → code_at l s q ≡ code_at l t q
   -- its one_write relation joins the two codes, and each step rule on it allows the difference of the levels
   pub linked : l.linked p (code_at l s p) (code_at l t p) ≡ true
-  pub steps : All (Allows l s t p) l.rules
+  pub steps : AllByRecursion (Allows l s t p) l.rules
 
 -- states s and t are joined
 abbrev pub Joined : Layout → ℕ → ℕ → Type 0

@@ -5,7 +5,7 @@
 --   Holds       a rule holds in a state
 --   Lawful      a state is lawful
 use Rattle.std.specs.Prelude.{ℕ, ◌+◌, ◌-◌, ◌<◌, ◌≤◌, Bool, true, cond, ◌&&◌, nat_le, nat_lt}
-use Rattle.std.specs.List.{AllByRecursion as All}
+use Rattle.std.specs.List.{AllByRecursion}
 use Rattle.device.specs.Every.{every}
 use Rattle.table.specs.declared.rule.Rule.{Rule}
 use Rattle.table.specs.declared.rule.Rule.TheVariants.{Window, Spread, Step, Need, Cap}
@@ -42,4 +42,4 @@ Holds l s (Cap clock most) = level_at l s clock ≤ most
 -- a state is lawful: its number is below the number of states, and every rule holds
 pub record Lawful (l : Layout) (s : ℕ) : Type 0 where
   pub below : s < states_of l
-  pub keeps : All (Holds l s) l.rules
+  pub keeps : AllByRecursion (Holds l s) l.rules

@@ -8,7 +8,7 @@
 --   level_at     the level of a part in a state
 --   present      the state number of a bank's present codes
 use Rattle.std.specs.Prelude.{ℕ, ◌≤◌, Bool, cond, ◌&&◌, List, length, Some, None, Ok, Err, Option, Result, ◌==◌, nat_le, nat_lt}
-use Rattle.std.specs.List.{AllByRecursion as All}
+use Rattle.std.specs.List.{AllByRecursion}
 use Rattle.answer.specs.Answers.{no_state}
 use Rattle.answer.specs.declared.refusal.Refusal.{Refusal}
 use Rattle.answer.specs.declared.refusal.Refusal.TheVariants.{NoPart, TooMany, WrongPart}
@@ -57,7 +57,7 @@ pub record NoDefect (l : Layout) : Type 0 where
   pub ruled : length l.rules ≤ 24
   pub bounded : weight l.count l.parts ≤ 4096
   -- each rule names rails and clocks that are there, and no rail twice
-  pub named : All (Names l.kind) l.rules
+  pub named : AllByRecursion (Names l.kind) l.rules
 
 -- no state at all with a defect
 abbrev pub states_by : Result ℕ Refusal → ℕ

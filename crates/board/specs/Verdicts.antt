@@ -3,7 +3,7 @@ use Rattle.std.specs.Prelude.{◌≡◌, ℕ, ◌<◌, Bool, true, false, ◌&&�
 use Rattle.std.proofs.Common.{sym, ap, ◌∙◌, inl, inr, arith}
 use Rattle.std.proofs.lemmas.Bool.{and_parts, and_from, eqb-false, ne_eqb, leb-true, le-leb}
 use Rattle.std.proofs.ByRecursion.{Decides-by_and}
-use Rattle.std.specs.List.{AllByRecursion as All}
+use Rattle.std.specs.List.{AllByRecursion}
 use Rattle.answer.specs.declared.refusal.Refusal.{Refusal}
 use Rattle.answer.specs.declared.refusal.Refusal.TheVariants.{NoPart, TooMany, WrongPart}
 use Rattle.device.specs.Every.{every}
@@ -20,7 +20,7 @@ pub record Flawless (l : Layout) : Type 0 where
   pub whole : NoDefect l
 
 -- the test of all names
-decides_named : (kind : ℕ → Kind) (rules : List Rule) → Decides (every (names_ok kind) rules) (All (Names kind) rules)
+decides_named : (kind : ℕ → Kind) (rules : List Rule) → Decides (every (names_ok kind) rules) (AllByRecursion (Names kind) rules)
 decides_named kind rules = Decides-by_and (names_ok kind) (Names kind) (every (names_ok kind)) (λ r. (named kind r, names kind r)) refl (λ _ _. refl) rules
 
 -- a layout with a defect

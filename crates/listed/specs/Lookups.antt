@@ -1,7 +1,7 @@
 -- What is looked up in a list, by place.
 use Rattle.std.specs.Prelude.{◌≡◌, ℕ, zero, suc, ◌<◌, ◌≤◌, List, [], ◌∷◌, map, length, ◌≢◌, slice_index_or, slice_set, refl}
 use Rattle.std.proofs.Common.{ap₂, arith}
-use Rattle.std.specs.List.{AllByRecursion as All}
+use Rattle.std.specs.List.{AllByRecursion}
 use Rattle.std.proofs.lemmas.List.{length-map}
 use Rattle.device.specs.Device.{Fresh, no_device}
 use Rattle.device.specs.Figures.{kind_of, device_of}
@@ -44,13 +44,13 @@ at_map f z h (x ∷ xs) zero = refl
 at_map f z h (x ∷ xs) (suc p) = at_map f z h xs p
 
 -- parts as made are those of their figures
-fresh_device : (ps : List Part) → All (λ x. Fresh (part_model x)) ps → (p : ℕ)
+fresh_device : (ps : List Part) → AllByRecursion (λ x. Fresh (part_model x)) ps → (p : ℕ)
     → at_or part_model no_device ps p ≡ at_or (λ f. device_of f 0 0) no_device (map part_figures ps) p
 fresh_device [] all p = refl
 fresh_device (x ∷ ps) all zero = ap₂ (λ c t. device_of (part_figures x) c t) all.0.0 all.0.1
 fresh_device (x ∷ ps) all (suc p) = fresh_device ps all.1 p
 
-pub fresh_bank : (ps : List Part) → All (λ x. Fresh (part_model x)) ps → bank_from ps ≡ bank_of (map part_figures ps)
+pub fresh_bank : (ps : List Part) → AllByRecursion (λ x. Fresh (part_model x)) ps → bank_from ps ≡ bank_of (map part_figures ps)
 fresh_bank ps all = λ i. record {
   parts = sides i;
   kind = λ p. kinds p i;

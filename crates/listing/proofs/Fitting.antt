@@ -3,7 +3,7 @@ use Rattle.std.proofs.Common.{◌≡◌, ℕ, ◌*◌, ◌<◌, ◌≤◌, Bool,
 use Rattle.std.proofs.lemmas.Nat.{mul-le}
 use Rattle.std.proofs.lemmas.List.{append-nil, append_assoc}
 use Rattle.std.proofs.lemmas.Bool.{and_parts, and_from, eqb-false, ne_eqb, leb-true, le-leb, ltb-true, lt-ltb, not-true, not_from_false}
-use Rattle.std.specs.List.{AllByRecursion as All}
+use Rattle.std.specs.List.{AllByRecursion}
 use Rattle.answer.specs.declared.refusal.Refusal.TheVariants.{TooMany, WrongPart}
 use Rattle.device.specs.Figures.{Figures, linear, listed, divider, tree, codes_of, from_to, level_ok, levels_ok, length_ok, ranged}
 use Rattle.device.specs.declared.kind.Kind.{Kind}
@@ -141,7 +141,7 @@ some_codes (tree divisors parents) s h =
     mul-le 1 1 (length parents) divisors (lowest 1 8 (length parents) s) (lowest 1 8 divisors (and_parts (from_to 1 8 divisors) (levels_ok parents) h).0)
 
 -- so parts in range make a state
-some_states : (rs : List Rec) → All (λ r. in_range r ≡ true) rs → 1 ≤ product (parts_of rs)
+some_states : (rs : List Rec) → AllByRecursion (λ r. in_range r ≡ true) rs → 1 ≤ product (parts_of rs)
 some_states [] h = omega arith
 some_states (part f ∷ rs) h =
     let p = and_parts (length_ok f) (ranged f) h.0 in
@@ -149,7 +149,7 @@ some_states (part f ∷ rs) h =
 some_states (rule r ∷ rs) h = some_states rs h.1
 
 -- records in range that make the table of a board are all taken in
-pub taken_run : (rs : List Rec) (ps : List Figures) (qs : List Rule) → All (λ r. in_range r ≡ true) rs
+pub taken_run : (rs : List Rec) (ps : List Figures) (qs : List Rule) → AllByRecursion (λ r. in_range r ≡ true) rs
     → length (ps ++ parts_of rs) ≤ 6 → length (qs ++ rules_of rs) ≤ 24 → product (ps ++ parts_of rs) ≤ 4096 → NamesEarlier ps rs
     → run admit (record { parts = ps; rules = qs }) rs ≡ Ok (record { parts = ps ++ parts_of rs; rules = qs ++ rules_of rs })
 taken_run [] ps qs h few ruled states earlier =

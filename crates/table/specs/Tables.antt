@@ -3,14 +3,14 @@
 --   run          records handed on one after the other
 --   records_of   the records that some bytes are read as
 use Rattle.std.specs.Prelude.{◌≡◌, ℕ, true, List, [], ◌∷◌, ◌++◌, Ok, Err, Result}
-use Rattle.std.specs.List.{flat_map, AllByRecursion as All}
+use Rattle.std.specs.List.{flat_map, AllByRecursion}
 use Rattle.answer.specs.declared.refusal.Refusal.{Refusal}
 use Rattle.table.specs.Records.{Rec, encode, in_range}
 use Rattle.table.specs.Reading.{Verdict, walk, by_added}
 
 -- the bytes are those of the records, one after the other, and each record is in range
 pub record Encodes (rs : List Rec) (bs : List ℕ) : Type 0 where
-  pub ranged : All (λ r. in_range r ≡ true) rs
+  pub ranged : AllByRecursion (λ r. in_range r ≡ true) rs
   pub bytes : flat_map encode rs ≡ bs
 
 -- records handed on one after the other, up to the first that is refused

@@ -1,6 +1,6 @@
 use Rattle.std.proofs.Common.{◌≡◌, List, [], ◌∷◌, ◌++◌, map, length, vec_items, sym, ap, ◌∙◌, subst, arith}
 use Rattle.std.proofs.lemmas.List.{length-map, map_push}
-use Rattle.std.specs.List.{AllByRecursion as All}
+use Rattle.std.specs.List.{AllByRecursion}
 use Rattle.std.proofs.ByRecursion.{All-push}
 use Rattle.answer.specs.declared.refusal.Refusal.TheVariants.{TooMany}
 use Rattle.listing.specs.declared.part.Part.{Part}
@@ -46,5 +46,5 @@ returns c =
     ap (map part_figures) items ∙ map_push part_figures (vec_items v) c.args.part in
     record {
       added = taken (lists_of l) (part_figures c.args.part) c.len.result l.states c.from.result n l.counted count (omega arith) (omega arith) _ pushed;
-      fresh = λ all made. subst (λ (ps : List Part). All (λ p. Fresh (part_model p)) ps) (sym items) (All-push (λ p. Fresh (part_model p)) (vec_items v) c.args.part all made);
+      fresh = λ all made. subst (λ (ps : List Part). AllByRecursion (λ p. Fresh (part_model p)) ps) (sym items) (All-push (λ p. Fresh (part_model p)) (vec_items v) c.args.part all made);
     }
