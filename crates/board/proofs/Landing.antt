@@ -100,14 +100,14 @@ one_digit m n rules p c a sm sn w here some =
     let l = layout_of m rules in
     let same = same_layout m n rules p c a w in
     let fine = flawless l some in
-    let fine-after = flawless (layout_of n rules) (omega (arith, ap states_of same)) in
+    let fine_after = flawless (layout_of n rules) (omega (arith, ap states_of same)) in
     let before : present m rules ≡ number (counts m) (λ q. (m.device q).code) m.parts = ap (λ v. state_by v (number (counts m) (λ q. (m.device q).code) m.parts)) fine.verdict in
-    let after : present n rules ≡ number (counts n) (λ q. (n.device q).code) n.parts = ap (λ v. state_by v (number (counts n) (λ q. (n.device q).code) n.parts)) fine-after.verdict in
-    let after-by : present n rules ≡ number (counts m) (λ q. (n.device q).code) m.parts =
+    let after : present n rules ≡ number (counts n) (λ q. (n.device q).code) n.parts = ap (λ v. state_by v (number (counts n) (λ q. (n.device q).code) n.parts)) fine_after.verdict in
+    let after_by : present n rules ≡ number (counts m) (λ q. (n.device q).code) m.parts =
     after_is m n rules p c a w ∙ ap (λ v. state_by v (number (counts m) (λ q. (n.device q).code) m.parts)) fine.verdict in
     let shift = number_one (counts m) (λ q. (m.device q).code) (λ q. (n.device q).code) m.parts p here (λ q _ ne. ap (λ (x : Device). x.code) (w.others q ne)) in (
       omega arith,
-      λ q h ne. (numbered n sn rules (present n rules) fine-after after (omega (arith, ap states_of same))).1 q (omega (arith, w.parts))
+      λ q h ne. (numbered n sn rules (present n rules) fine_after after (omega (arith, ap states_of same))).1 q (omega (arith, w.parts))
           ∙ ap (λ (x : Device). x.code) (w.others q ne)
           ∙ sym ((numbered m sm rules (present m rules) fine before some).1 q h),
     )

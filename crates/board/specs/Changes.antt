@@ -5,7 +5,7 @@ use Rattle.std.proofs.Common.{sym, ap, ap₂, ◌∙◌, add-one}
 use Rattle.std.proofs.Math.Logic.{inl, inr}
 use native.Mathlib.Omega.{arith}
 use Rattle.std.proofs.lemmas.Bool.{cases_lt, eqb-true, eqb-false, eq-eqb, ne_eqb, cond-true, cond-false}
-use Rattle.std.proofs.lemmas.Bool.Decides.{nat_tests as tells-tests}
+use Rattle.std.proofs.lemmas.Bool.Decides.{nat_tests as tells_tests}
 use Rattle.bank.specs.States.{weight, digit}
 use Rattle.board.specs.Joining.{beside, change}
 use Rattle.board.specs.declared.change.Change.{Change}
@@ -123,4 +123,4 @@ change_turned count s t (suc k) =
     ap₂ (λ b c. cond b c (beside c k)) (eqb_turned (digit count s k) (digit count t k)) (change_turned count s t k)
   where
     eqb_turned : (a b : ℕ) → (a == b) ≡ (b == a)
-    eqb_turned a b = grind (arith, tells-tests)
+    eqb_turned a b = grind (arith, tells_tests)

@@ -66,7 +66,7 @@ pub record JoinedBy (l : Layout) (s t p : ℕ) : Type 0 where
   pub here : p < l.parts
   pub differ : code_at l s p ≡ code_at l t p → ⊥
   pub alike : (q : ℕ) → q < l.parts → (q ≢ p) → code_at l s q ≡ code_at l t q
-  -- its one_write relation joins the two codes, and each step rule on it allows the difference of the levels
+  -- its one-write relation joins the two codes, and each step rule on it allows the difference of the levels
   pub linked : l.linked p (code_at l s p) (code_at l t p) ≡ true
   pub steps : AllByRecursion (Allows l s t p) l.rules
 

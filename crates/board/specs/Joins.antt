@@ -115,7 +115,7 @@ few_states l =
       | inr w ↦ omega (arith, no_states l w)
     ]
 
--- the one_write relation of a bank's part is symmetric
+-- the one-write relation of a bank's part is symmetric
 linked_turned : (m : BankModel) → Sound m → (p a b : ℕ) → (m.device p).linked a b ≡ (m.device p).linked b a
 linked_turned m sound p a b =
     elim (cases_lt p m.parts) [

@@ -1,4 +1,4 @@
--- A board as no write changes it: a bank's parts with their codes, levels and one_write relations, and the rules.
+-- A board as no write changes it: a bank's parts with their codes, levels and one-write relations, and the rules.
 --   Layout       the parts and the rules
 --   layout_of    the layout of a bank under some rules
 --   NoDefect     what a board without a defect has

@@ -27,16 +27,16 @@ module _ (m : BankModel) (sound : Sound m) where
       → w ≡ weight (counts m) k → x ≡ number (counts m) (λ p. (m.device p).code) k → c ≡ (m.device k).code
       → (c * w ≤ 262144) × (x < 4096)
   turn_fits k w x c h few ww xx cc =
-      let w_Fits = weight_grows (counts m) k m.parts (omega arith) some_codes in
+      let w_fits = weight_grows (counts m) k m.parts (omega arith) some_codes in
       let x_below = number_below (counts m) (λ p. (m.device p).code) k (λ p l. codes_within p (omega arith)) in
-      let c-below = codes_within k h in
-      let c-most = (sound.sound k h).few in
+      let c_below = codes_within k h in
+      let c_most = (sound.sound k h).few in
       (mul-le c w 64 4096 (omega arith) (omega arith), omega arith)
 
   pub product_fits : (k w n : ℕ) → k < m.parts → weight (counts m) m.parts ≤ 4096 → w ≡ weight (counts m) k → n ≡ counts m k → w * n ≤ 262144
   product_fits k w n h few ww nn =
-      let w_Fits = weight_grows (counts m) k m.parts (omega arith) some_codes in
-      let n-most = (sound.sound k h).few in
+      let w_fits = weight_grows (counts m) k m.parts (omega arith) some_codes in
+      let n_most = (sound.sound k h).few in
       mul-le w n 4096 64 (omega arith) (omega arith)
 
   -- one part more

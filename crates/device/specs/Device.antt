@@ -1,7 +1,7 @@
 -- What a device means, and what a write does to it. A device is a regulator or a clock.
 --   Device      a device as its questions tell it
 --   Sound       what every device keeps
---   any_two     the one_write relation of a regulator, and of a clock without restrictions
+--   any_two     the one-write relation of a regulator, and of a clock without restrictions
 --   Written     what one write of a code does, whatever the device answers
 --   Willing     the device never balks: the supplied kinds
 --   Fresh       the device as it is made: code 0, no write counted
@@ -32,7 +32,7 @@ pub record Sound (d : Device) : Type 0 where
   -- the present code is one of them, and the tally has 64 bits
   pub within : d.code < d.count
   pub counted : d.tally < 2 ^ 64
-  -- the one_write relation is symmetric and joins only different codes that the device has
+  -- the one-write relation is symmetric and joins only different codes that the device has
   pub symmetric : (a b : ℕ) → d.linked a b ≡ d.linked b a
   pub from_code : (a b : ℕ) → d.linked a b ≡ true → a < d.count
   pub to_code : (a b : ℕ) → d.linked a b ≡ true → b < d.count

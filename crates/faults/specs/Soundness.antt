@@ -2,7 +2,7 @@
 use Rattle.std.specs.Prelude.{ℕ, ◌^◌, ◌<◌, List, nat_lt, slice_index}
 use Rattle.std.proofs.Common.{ap₂, arith}
 use Rattle.std.proofs.lemmas.Bool.{cond_both, cond-false, le-ltb}
-use Rattle.device.specs.Device.{Device, no_device}
+use Rattle.device.specs.Device.{Device}
 use Rattle.device.specs.Device as device
 use Rattle.bank.specs.Banks.{BankModel, Sound}
 use Rattle.faults.specs.Faulty.{with_tally, faulty}

@@ -39,9 +39,9 @@ putting_more ps s k qs rest c x y h is count kept put was =
     let count_of = counts (bank_from ps) in
     let old : (bank_from ps).device k ≡ part_model x = sym (was.ahead k (omega arith)) ∙ device_before qs k x y h is kept in
     let many : c ≡ count_of k = count ∙ sym (ap (λ (d : Device). d.count) old) in
-    let digit-is : rest % c ≡ digit count_of s k = ap₂ (λ a b. a % b) was.left many in
+    let digit_is : rest % c ≡ digit count_of s k = ap₂ (λ a b. a % b) was.left many in
     let here : (bank_from (set qs k y)).device k ≡ set_on ((bank_from ps).device k) (digit count_of s k) =
-    device_after qs k x y h is kept ∙ put ∙ ap₂ set_on (sym old) digit-is in
+    device_after qs k x y h is kept ∙ put ∙ ap₂ set_on (sym old) digit_is in
     record {
       long = length-set qs k y ∙ was.long;
       left = ap₂ (λ a b. a / b) was.left many ∙ rest_more count_of s k ∙ ap (λ i. s / weight count_of i) (sym (add-one k));

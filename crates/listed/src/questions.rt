@@ -1,5 +1,4 @@
 // The listed bank's questions and writes.
-ghost use Rattle.std.specs.Prelude.{◌+◌};
 ghost use Rattle.bank.specs.Banks.{Written, Willing};
 ghost use Rattle.listed.specs.Listing.{bank_from, Shows};
 ghost use Rattle.std.proofs.Common.{arith};

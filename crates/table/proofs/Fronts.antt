@@ -135,7 +135,7 @@ encoded bs size kind r n b stated number w =
     let long : length body ≡ size - 2 = length-take-le (size - 2) (drop 4 bs) (omega (arith, length-drop 4 bs)) in
     let fits : body_ok kind (length body) ≡ true = ap (body_ok kind) long ∙ w.fits in
     let written : body_of r ≡ body = ap body_of w.held ∙ body_again kind body body_bytes fits in
-    let kinds-are : record_kind r ≡ kind = ap record_kind w.held ∙ kind_again kind body in
+    let kinds_are : record_kind r ≡ kind = ap record_kind w.held ∙ kind_again kind body in
     let shaped : shape_ok r ≡ true = ap shape_ok w.held ∙ shape_again kind body body_bytes fits in
     let sized : length (body_of r) + 2 ≡ size = omega (arith, ap length written) in
     let count : n ≡ length (encode r) = omega (arith, w.whole) in
@@ -145,7 +145,7 @@ encoded bs size kind r n b stated number w =
     let second : le 2 (field bs 2 2) ++ (body_of r ++ drop n bs) ≡ drop 2 bs = le_at 2 bs _ 2 b (omega arith) tail in
     let first : le 2 (field bs 0 2) ++ (le 2 (field bs 2 2) ++ (body_of r ++ drop n bs)) ≡ bs = le_at 2 bs _ 0 b (omega arith) second in
     let lengths : length (body_of r) + 2 ≡ field bs 0 2 = sized ∙ stated in
-    let numbers : kind_number (record_kind r) ≡ field bs 2 2 = ap kind_number kinds-are ∙ number in
+    let numbers : kind_number (record_kind r) ≡ field bs 2 2 = ap kind_number kinds_are ∙ number in
     record {
       ranged = and_from (shape_ok r) (figures_ok r) shaped w.ranged;
       bytes = ap₂ (λ (p q : ℕ). le 2 p ++ (le 2 q ++ (body_of r ++ drop n bs))) lengths numbers ∙ first;
