@@ -1,18 +1,18 @@
 // A fault: what a call that is sent back tells.
 ghost use Rattle.std.specs.Prelude.{◌≡◌};
-ghost use Rattle.answer.specs.Faults.{table_fault, memory_fault};
+ghost use Rattle.answer.specs.Faults.{table_fault, memory_fault, part_number};
 
 use super::NO_PART;
 use super::layer::Layer;
 use super::refusal::Refusal;
 use std::alloc::{AllocError, AllocFailed};
 
-#[derive(Clone, Copy, Debug)]
+#[derive(Clone, Copy, Debug, PartialEq, Eq)]
 pub struct Fault {
     pub refusal: Refusal,
     pub layer: Layer,
-    // The part that was written to, or 255.
-    pub part: u8,
+    // The part that was written to, if there is one.
+    pub part: Option<u8>,
     // The record or the write that the fault is about, or 0.
     pub place: usize,
 }
@@ -25,9 +25,16 @@ impl Fault {
         Fault {
             refusal,
             layer: Layer::Table,
-            part: NO_PART,
+            part: None,
             place,
         }
+    }
+
+    // The number of the part as it is told outside: 255 where the fault names no part.
+    pub fn part_number(&self) -> u8
+        ensures { result ≡ part_number self.now.part }
+    {
+        self.part.unwrap_or(NO_PART)
     }
 
     // Want of memory.

@@ -2,16 +2,16 @@
 ghost use Rattle.std.specs.Prelude.{◌≡◌};
 ghost use Rattle.answer.specs.Answers.{layer_number};
 
-#[derive(Clone, Copy, Debug)]
+#[derive(Clone, Copy, Debug, PartialEq, Eq)]
 pub enum Layer {
     // The constraint table, the devices and the banks made from it.
-    Table,
+    Table = 1,
     // The search for islands and plans.
-    Planner,
+    Planner = 2,
     // The walk along a plan.
-    Crossing,
+    Crossing = 3,
     // A device's own answer to a write.
-    Device,
+    Device = 4,
 }
 
 impl Layer {
@@ -19,11 +19,6 @@ impl Layer {
     pub fn number(&self) -> u8
         ensures { result ≡ layer_number self.now }
     {
-        match self {
-            Layer::Table => 1,
-            Layer::Planner => 2,
-            Layer::Crossing => 3,
-            Layer::Device => 4,
-        }
+        *self as u8
     }
 }

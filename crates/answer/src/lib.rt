@@ -16,5 +16,5 @@ pub type State = u16;
 // The state number that stands for no state.
 pub const NONE: State = 65_535;
 
-// The part number of a fault that names no part.
+// What stands outside for the part of a fault that names no part.
 pub const NO_PART: u8 = 255;

@@ -1,45 +1,45 @@
-// Why a call is sent back.
+// Why a call is sent back. Each refusal has its number.
 ghost use Rattle.std.specs.Prelude.{◌≡◌};
 ghost use Rattle.answer.specs.Answers.{refusal_number};
 
-#[derive(Clone, Copy, Debug)]
+#[derive(Clone, Copy, Debug, PartialEq, Eq)]
 pub enum Refusal {
     // A record or a header runs past the end of the bytes.
-    Truncated,
+    Truncated = 1,
     // A record's kind is none that is known.
-    UnknownKind,
+    UnknownKind = 2,
     // A record's length, or a list's, is none that its kind has.
-    WrongLength,
+    WrongLength = 3,
     // A figure or a level lies outside its range.
-    OutOfRange,
+    OutOfRange = 4,
     // A part, a rule or a state too many.
-    TooMany,
+    TooMany = 5,
     // A rule names an absent part, a part of the wrong kind, or one rail twice.
-    WrongPart,
+    WrongPart = 6,
     // A table or a bank has no part.
-    NoPart,
+    NoPart = 7,
     // A buffer is too short, or a plan has no state.
-    ShortBuffer,
+    ShortBuffer = 8,
     // A state number is not below the number of states.
-    NoSuchState,
+    NoSuchState = 9,
     // A state is unlawful.
-    Unlawful,
+    Unlawful = 10,
     // No chain joins the two ends.
-    NoChain,
+    NoChain = 11,
     // The note is void.
-    VoidNote,
+    VoidNote = 12,
     // No write is left that way.
-    NoWriteLeft,
+    NoWriteLeft = 13,
     // The present state differs from the plan's state at the place.
-    OffPlan,
+    OffPlan = 14,
     // The next state is not joined to the present one.
-    NotJoined,
+    NotJoined = 15,
     // The device balked.
-    Balked,
+    Balked = 16,
     // The device is unsure whether the write took.
-    Unsure,
+    Unsure = 17,
     // Memory ran out.
-    NoMemory,
+    NoMemory = 255,
 }
 
 impl Refusal {
@@ -47,25 +47,6 @@ impl Refusal {
     pub fn number(&self) -> u8
         ensures { result ≡ refusal_number self.now }
     {
-        match self {
-            Refusal::Truncated => 1,
-            Refusal::UnknownKind => 2,
-            Refusal::WrongLength => 3,
-            Refusal::OutOfRange => 4,
-            Refusal::TooMany => 5,
-            Refusal::WrongPart => 6,
-            Refusal::NoPart => 7,
-            Refusal::ShortBuffer => 8,
-            Refusal::NoSuchState => 9,
-            Refusal::Unlawful => 10,
-            Refusal::NoChain => 11,
-            Refusal::VoidNote => 12,
-            Refusal::NoWriteLeft => 13,
-            Refusal::OffPlan => 14,
-            Refusal::NotJoined => 15,
-            Refusal::Balked => 16,
-            Refusal::Unsure => 17,
-            Refusal::NoMemory => 255,
-        }
+        *self as u8
     }
 }

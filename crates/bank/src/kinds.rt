@@ -15,7 +15,7 @@ struct PartKinds<'a, B: Bank> {
 impl<'a, B: Bank> Kinds for PartKinds<'a, B> {
     ghost kinds = { λ k. (B.Bank.model k.bank.now).kind };
 
-    fn kind_of(&self, part: u8) -> Kind {
+    fn kind_of(&self, part: u8) -> Option<Kind> {
         self.bank.kind(part)
     }
 }

@@ -21,8 +21,8 @@ pub trait Bank {
     fn parts(&self) -> u8
         ensures { result ≡ (model self.now).parts };
 
-    // The kind of a part.
-    fn kind(&self, part: u8) -> Kind
+    // The kind of a part, none of an absent part.
+    fn kind(&self, part: u8) -> Option<Kind>
         ensures { result ≡ (model self.now).kind part };
 
     // How many codes a part has, 0 for an absent part.

@@ -1,21 +1,13 @@
 -- The lines that the programs print, byte by byte, without the newline.
---   kind_word    the word for a kind of part
 --   rule_bytes   a rule with its figures
 --   line_bytes   a line
 use Rattle.std.specs.Prelude.{ℕ, List, ◌++◌, codes, decimal}
 use Rattle.answer.specs.Answers.{refusal_number}
-use Rattle.device.specs.declared.kind.Kind.{Kind}
-use Rattle.device.specs.declared.kind.Kind.TheVariants.{Rail, Clock, Absent}
+use Rattle.device.specs.Answers.{kind_word}
 use Rattle.table.specs.declared.rule.Rule.TheVariants as rules
 use Rattle.table.specs.declared.rule.Rule.{Rule as BoardRule}
 use Rattle.bench.specs.declared.line.Line.{Line}
 use Rattle.bench.specs.declared.line.Line.TheVariants.{Level, Rule, States, Lawful, Refused}
-
--- the word for a kind of part
-abbrev pub kind_word : Kind → List ℕ
-kind_word Rail = codes "rail"
-kind_word Clock = codes "clock"
-kind_word Absent = codes "absent"
 
 -- a rule with its figures: µV for rails, kHz for clocks
 abbrev pub rule_bytes : BoardRule → List ℕ

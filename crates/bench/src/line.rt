@@ -1,6 +1,6 @@
 // A line that a program prints.
 ghost use Rattle.std.specs.Prelude.{◌≡◌, [], ◌∷◌, ◌++◌, IfOk, Some, string_bytes};
-ghost use Rattle.bench.specs.Lines.{kind_word, line_bytes};
+ghost use Rattle.bench.specs.Lines.{line_bytes};
 
 use answer::Refusal;
 use device::{Code, Kind};
@@ -27,17 +27,6 @@ pub enum Line {
     Refused(Refusal),
 }
 
-// The word for a kind of part.
-fn word(kind: &Kind) -> &'static str
-    ensures { result.now ≡ kind_word kind.now }
-{
-    match kind {
-        Kind::Rail => "rail",
-        Kind::Clock => "clock",
-        Kind::Absent => "absent",
-    }
-}
-
 impl fmt::Display for Line {
     ghost output = { λ l. Some (line_bytes l) };
 
@@ -48,10 +37,7 @@ impl fmt::Display for Line {
                 part,
                 code,
                 level,
-            } => {
-                let word = word(kind);
-                write!(f, "{word} {part} code {code} at {level}")
-            }
+            } => write!(f, "{kind} {part} code {code} at {level}"),
             Line::Rule(rule) => match rule {
                 Rule::Window {
                     rail,

@@ -1,18 +1,19 @@
 // The divider clock: rate = parent ÷ (code + 1), rounded up.
-ghost use Rattle.std.specs.Prelude.{◌≡◌, nat_lt};
-ghost use Rattle.device.specs.Device.{Written, Willing, set_on};
+ghost use Rattle.std.specs.Prelude.{◌≡◌, refl};
+ghost use Rattle.device.specs.Device.{Written, Willing};
 ghost use Rattle.device.specs.Figures.{divider, Made};
+ghost use Rattle.device.specs.declared.kind.Kind.TheVariants.{Clock};
+ghost use Rattle.device.specs.Kinds.{clock_no_rail};
 ghost use Rattle.clocks.specs.Supplied.{divider_figures, divider_model};
 ghost use Rattle.clocks.specs.Sounds.{divider_sound};
 
 use super::DividerClock;
 use super::quotient::rounded_up;
 use answer::{Fault, Refusal};
-use device::Code;
-use device::answers::Answer;
-use device::clock::Clock;
+use device::devices::any_two;
 use device::limits::is_divider;
 use device::register::Register;
+use device::{Answer, Clock, Code, Device, Kind, Supplied};
 
 impl DividerClock {
     // A clock at code 0, or 4 where a figure is out of its range.
@@ -28,25 +29,18 @@ impl DividerClock {
             register: Register::new(),
         })
     }
-
-    // Puts the clock on a code that it has, without a write: the tally stays. An absent code is no, and changes nothing.
-    pub fn set(&mut self, code: Code) -> bool
-        ensures has { result ≡ nat_lt code (divider_model self.old).count }
-        ensures put { divider_model self.new ≡ set_on (divider_model self.old) code }
-    {
-        if code < self.count() {
-            self.register.set(code);
-            true
-        } else {
-            false
-        }
-    }
 }
 
-impl Clock for DividerClock {
+impl Device for DividerClock {
     ghost model = { divider_model };
 
+    ghost KIND = { Clock };
+
+    const KIND: Kind = Kind::Clock;
+
     ghost sound = { divider_sound };
+
+    ghost free = { λ e. absurd (clock_no_rail e) };
 
     fn count(&self) -> Code {
         self.count
@@ -61,7 +55,7 @@ impl Clock for DividerClock {
     }
 
     fn linked(&self, from: Code, to: Code) -> bool {
-        from < self.count && to < self.count && from != to
+        any_two(self.count, from, to)
     }
 
     fn code(&self) -> Code {
@@ -76,11 +70,18 @@ impl Clock for DividerClock {
         ensures written { Written (divider_model self.old) code result (divider_model self.new) }
         ensures willing { Willing (divider_model self.old) code result }
     {
-        if self.linked(self.code(), code) {
-            self.register.put(code);
-            Answer::Done
-        } else {
-            Answer::NoSuchWrite
-        }
+        let exists = self.linked(self.code(), code);
+        self.register.write(exists, code)
+    }
+}
+
+impl Clock for DividerClock {
+    ghost clock = { refl };
+}
+
+impl Supplied for DividerClock {
+    fn set(&mut self, code: Code) -> bool {
+        let count = self.count();
+        self.register.set_below(count, code)
     }
 }

@@ -8,6 +8,7 @@
 --   device_of   the device with these figures, at a present code and a tally
 --   Made        what a constructor answers
 use Rattle.std.specs.Prelude.{◌≡◌, ℕ, ◌+◌, ◌-◌, ◌*◌, ◌/◌, ◌%◌, Bool, true, cond, ◌&&◌, ◌||◌, List, [], ◌∷◌, length, Some, None, Ok, Err, Option, Result, ◌==◌, nat_le, nat_lt, slice_index}
+use Rattle.std.specs.List.{list_all}
 use Rattle.answer.specs.declared.refusal.Refusal.{Refusal}
 use Rattle.answer.specs.declared.refusal.Refusal.TheVariants.{WrongLength, OutOfRange}
 use Rattle.answer.specs.declared.fault.Fault.{Fault}
@@ -73,8 +74,7 @@ level_ok x = from_to 1 5000000 x
 
 -- each of a list of levels
 abbrev pub levels_ok : List ℕ → Bool
-levels_ok [] = true
-levels_ok (x ∷ xs) = level_ok x && levels_ok xs
+levels_ok xs = list_all level_ok xs
 
 -- a table rail lists 1 to 64 levels, and a tree clock 1 to 8 parents
 abbrev pub length_ok : Figures → Bool

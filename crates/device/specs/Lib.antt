@@ -1,5 +1,5 @@
 pub mod Answers
 pub mod Device
-pub mod Every
 pub mod Figures
+pub mod Kinds
 pub mod Seek

@@ -2,16 +2,16 @@
 ghost use Rattle.std.specs.Prelude.{◌≡◌};
 ghost use Rattle.device.specs.Answers.{answer_number};
 
-#[derive(Clone, Copy, Debug)]
+#[derive(Clone, Copy, Debug, PartialEq, Eq)]
 pub enum Answer {
     // The present code is the one asked for.
-    Done,
+    Done = 0,
     // The present code is the old one.
-    Balked,
+    Balked = 1,
     // The present code is the old one or the one asked for.
-    Unsure,
+    Unsure = 2,
     // There is no such write, and nothing changed.
-    NoSuchWrite,
+    NoSuchWrite = 3,
 }
 
 impl Answer {
@@ -19,11 +19,6 @@ impl Answer {
     pub fn number(&self) -> u8
         ensures { result ≡ answer_number self.now }
     {
-        match self {
-            Answer::Done => 0,
-            Answer::Balked => 1,
-            Answer::Unsure => 2,
-            Answer::NoSuchWrite => 3,
-        }
+        *self as u8
     }
 }

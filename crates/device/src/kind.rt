@@ -1,26 +1,36 @@
 // What a part of a board is.
-ghost use Rattle.std.specs.Prelude.{◌≡◌};
-ghost use Rattle.device.specs.Answers.{kind_number};
+ghost use Rattle.std.specs.Prelude.{◌≡◌, Some};
+ghost use Rattle.device.specs.Answers.{kind_number, kind_word};
 
-#[derive(Clone, Copy, Debug)]
+use std::fmt;
+
+#[derive(Clone, Copy, Debug, PartialEq, Eq)]
 pub enum Kind {
     // A regulator of a voltage rail.
-    Rail,
+    Rail = 0,
     // A clock.
-    Clock,
-    // There is no such part.
-    Absent,
+    Clock = 1,
 }
 
+// The number of a part's kind outside where there is no such part.
+const ABSENT: u8 = 2;
+
 impl Kind {
-    // The number by which a kind is known outside.
-    pub fn number(&self) -> u8
-        ensures { result ≡ kind_number self.now }
+    // The number by which the kind of a part is known outside, where none is that of an absent part.
+    pub fn number(kind: Option<Kind>) -> u8
+        ensures { result ≡ kind_number kind }
     {
-        match self {
-            Kind::Rail => 0,
-            Kind::Clock => 1,
-            Kind::Absent => 2,
-        }
+        kind.map_or(ABSENT, |kind| kind as u8)
+    }
+}
+
+impl fmt::Display for Kind {
+    ghost output = { λ kind. Some (kind_word kind) };
+
+    fn fmt<W: fmt::Write>(&self, f: &mut fmt::Formatter<W>) -> fmt::Result {
+        f.write_str(match self {
+            Kind::Rail => "rail",
+            Kind::Clock => "clock",
+        })
     }
 }

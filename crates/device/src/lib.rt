@@ -3,17 +3,17 @@
 #![tactic(auto)]
 
 pub mod answers;
-pub mod clock;
+pub mod devices;
 pub mod kind;
 pub mod limits;
 pub mod register;
-pub mod regulator;
 pub mod seek;
+pub mod supplied;
 
 pub use answers::Answer;
-pub use clock::Clock;
+pub use devices::{Clock, Device, Regulator};
 pub use kind::Kind;
-pub use regulator::Regulator;
+pub use supplied::Supplied;
 
 // A device's selector, counted from 0.
 pub type Code = u16;

@@ -8,43 +8,38 @@ use super::{Code, MOST_CODES, MOST_DIVISORS, TOP_LEVEL};
 pub fn is_level(level: u32) -> bool
     ensures { result ≡ level_ok level }
 {
-    level >= 1 && level <= TOP_LEVEL
+    (1..=TOP_LEVEL).contains(&level)
 }
 
 // Each of a list of levels.
 pub fn are_levels(levels: &[u32]) -> bool
     ensures { result ≡ levels_ok levels.now }
 {
-    for level in levels {
-        if !is_level(*level) {
-            return false;
-        }
-    }
-    true
+    levels.iter().all(|level| is_level(*level))
 }
 
 // A number of codes: 1 to 64.
 pub fn is_count(count: Code) -> bool
     ensures { result ≡ from_to 1 64 count }
 {
-    count >= 1 && count <= MOST_CODES
+    (1..=MOST_CODES).contains(&count)
 }
 
 // A number of divisors: 1 to 8.
 pub fn is_divisors(divisors: Code) -> bool
     ensures { result ≡ from_to 1 8 divisors }
 {
-    divisors >= 1 && divisors <= MOST_DIVISORS
+    (1..=MOST_DIVISORS).contains(&divisors)
 }
 
 // The figures of a linear rail, its highest level too.
 pub fn is_linear(lowest: u32, step: u32, count: Code) -> bool
     ensures { result ≡ ranged (linear lowest step count) }
 {
-    if !is_level(lowest) || !is_level(step) || !is_count(count) {
-        return false;
-    }
-    lowest + (u32::from(count) - 1) * step <= TOP_LEVEL
+    is_level(lowest)
+        && is_level(step)
+        && is_count(count)
+        && lowest + (u32::from(count) - 1) * step <= TOP_LEVEL
 }
 
 // The figures of a divider clock.

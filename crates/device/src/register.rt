@@ -1,10 +1,12 @@
 // The selector register of a supplied device: its present code and the tally of writes asked for.
-ghost use Rattle.std.specs.Prelude.{◌≡◌, ◌^◌, ◌<◌};
+ghost use Rattle.std.specs.Prelude.{◌≡◌, ◌^◌, ◌<◌, if◌then◌else◌, nat_lt};
 ghost use Rattle.device.specs.Device.{counted_on};
+ghost use Rattle.device.specs.declared.answers.Answer.TheVariants.{Done, NoSuchWrite};
 
 use super::Code;
+use super::answers::Answer;
 
-#[derive(Clone, Copy)]
+#[derive(Clone, Copy, Debug, PartialEq, Eq)]
 pub struct Register {
     code: Code,
     tally: u64,
@@ -52,5 +54,30 @@ impl Register {
             code,
             tally: self.tally,
         };
+    }
+    // Answers a write of a code: done and counted where there is such a write, else nothing changes.
+    pub fn write(&mut self, exists: bool, code: Code) -> Answer
+        ensures answer { result ≡ (if exists then Done else NoSuchWrite) }
+        ensures code { self.new.code ≡ (if exists then code else self.old.code) }
+        ensures tally { self.new.tally ≡ (if exists then counted_on self.old.tally else self.old.tally) }
+    {
+        if !exists {
+            return Answer::NoSuchWrite;
+        }
+        self.put(code);
+        Answer::Done
+    }
+
+    // Puts a code below the count in without a write; any other code is no, and changes nothing.
+    pub fn set_below(&mut self, count: Code, code: Code) -> bool
+        ensures has { result ≡ nat_lt code count }
+        ensures code { self.new.code ≡ (if nat_lt code count then code else self.old.code) }
+        ensures tally { self.new.tally ≡ self.old.tally }
+    {
+        let has = code < count;
+        if has {
+            self.set(code);
+        }
+        has
     }
 }

@@ -6,47 +6,14 @@ use Rattle.std.proofs.lemmas.Bool.{and_parts, and_from, eqb-false, ne_eqb, leb-t
 use Rattle.std.specs.List.{AllByRecursion}
 use Rattle.answer.specs.declared.refusal.Refusal.TheVariants.{TooMany, WrongPart}
 use Rattle.device.specs.Figures.{Figures, linear, listed, divider, tree, codes_of, from_to, level_ok, levels_ok, length_ok, ranged}
-use Rattle.device.specs.declared.kind.Kind.{Kind}
-use Rattle.device.specs.declared.kind.Kind.TheVariants.{Rail, Clock, Absent}
 use Rattle.table.specs.Records.{Rec, part, rule, in_range}
 use Rattle.table.specs.Reading.{by_added}
 use Rattle.table.specs.Tables.{run}
-use Rattle.listing.specs.Lists.{Lists, product, kind_at, is_rail, is_clock, names_ok, admit, admit_part, admit_rule, parts_of, rules_of, Names, NamesEarlier}
+use Rattle.listing.specs.Lists.{Lists, product, kind_at, admit, admit_part, admit_rule, parts_of, rules_of, NamesEarlier}
 use Rattle.table.specs.declared.rule.Rule.{Rule}
-use Rattle.table.specs.declared.rule.Rule.TheVariants.{Window, Spread, Step, Need, Cap}
+use Rattle.table.specs.Names.{names_ok}
+use Rattle.table.proofs.Naming.{named, names}
 use Rattle.listing.proofs.Admits.{product_push}
-
-rail_is : (k : Kind) → is_rail k ≡ true → k ≡ Rail
-rail_is Rail h = refl
-rail_is Clock h = let z : ◌≡◌ {A = ℕ} 0 1 = cc in absurd (omega arith)
-rail_is Absent h = let z : ◌≡◌ {A = ℕ} 0 1 = cc in absurd (omega arith)
-
-clock_is : (k : Kind) → is_clock k ≡ true → k ≡ Clock
-clock_is Rail h = let z : ◌≡◌ {A = ℕ} 0 1 = cc in absurd (omega arith)
-clock_is Clock h = refl
-clock_is Absent h = let z : ◌≡◌ {A = ℕ} 0 1 = cc in absurd (omega arith)
-
--- the test of a rule's names tells that it names what is there
-named : (ps : List Figures) (r : Rule) → names_ok ps r ≡ true → Names ps r
-named ps (Window rail floor ceiling) h = rail_is (kind_at ps rail) h
-named ps (Spread rail other most) h =
-    let p = and_parts (is_rail (kind_at ps rail)) (is_rail (kind_at ps other) && not (eqb rail other)) h in
-    let q = and_parts (is_rail (kind_at ps other)) (not (eqb rail other)) p.1 in
-    (rail_is (kind_at ps rail) p.0, rail_is (kind_at ps other) q.0, eqb-false rail other (not-true (eqb rail other) q.1))
-named ps (Step rail most) h = rail_is (kind_at ps rail) h
-named ps (Need clock above rail least) h =
-    let p = and_parts (is_clock (kind_at ps clock)) (is_rail (kind_at ps rail)) h in
-    (clock_is (kind_at ps clock) p.0, rail_is (kind_at ps rail) p.1)
-named ps (Cap clock most) h = clock_is (kind_at ps clock) h
-
-names : (ps : List Figures) (r : Rule) → Names ps r → names_ok ps r ≡ true
-names ps (Window rail floor ceiling) h = ap is_rail h
-names ps (Spread rail other most) h =
-    and_from (is_rail (kind_at ps rail)) (is_rail (kind_at ps other) && not (eqb rail other)) (ap is_rail h.0)
-    (and_from (is_rail (kind_at ps other)) (not (eqb rail other)) (ap is_rail h.1) (not_from_false (eqb rail other) (ne_eqb rail other h.2)))
-names ps (Step rail most) h = ap is_rail h
-names ps (Need clock above rail least) h = and_from (is_clock (kind_at ps clock)) (is_rail (kind_at ps rail)) (ap is_clock h.0) (ap is_rail h.1)
-names ps (Cap clock most) h = ap is_clock h
 
 -- what records that were all taken in have made of the lists
 pub record Taken (l : Lists) (rs : List Rec) (t : Lists) : Type 0 where
@@ -94,13 +61,13 @@ run_taken (part f ∷ rs) l t few ruled states h = go (run_taken rs more t) (ltb
           states = rest.states;
           earlier = rest.earlier;
         }
-run_taken (rule r ∷ rs) l t few ruled states h = go (run_taken rs more t) (ltb (length l.rules) 24) (names_ok l.parts r) refl refl
+run_taken (rule r ∷ rs) l t few ruled states h = go (run_taken rs more t) (ltb (length l.rules) 24) (names_ok (kind_at l.parts) r) refl refl
   where
     more : Lists
     more = record { parts = l.parts; rules = l.rules ++ r ∷ [] }
 
     go : (length l.parts ≤ 6 → length more.rules ≤ 24 → product l.parts ≤ 4096 → run admit more rs ≡ Ok t → Taken more rs t)
-        → (a b : Bool) → ltb (length l.rules) 24 ≡ a → names_ok l.parts r ≡ b → Taken l (rule r ∷ rs) t
+        → (a b : Bool) → ltb (length l.rules) 24 ≡ a → names_ok (kind_at l.parts) r ≡ b → Taken l (rule r ∷ rs) t
     go later false b e k =
         let s : admit_rule l r ≡ Err TooMany = simp e in
         let w : Err TooMany ≡ Ok t = sym (ap (λ x. by_added x (λ u. run admit u rs) (λ v. Err v)) s) ∙ h in
@@ -119,7 +86,7 @@ run_taken (rule r ∷ rs) l t few ruled states h = go (run_taken rs more t) (ltb
           few = rest.few;
           ruled = rest.ruled;
           states = rest.states;
-          earlier = (named l.parts r k, rest.earlier);
+          earlier = (named (kind_at l.parts) r k, rest.earlier);
         }
 
 product_append : (ps qs : List Figures) → product (ps ++ qs) ≡ product ps * product qs
@@ -175,7 +142,7 @@ taken_run (rule r ∷ rs) ps qs h few ruled states earlier =
     let whole : (qs ++ r ∷ []) ++ rules_of rs ≡ qs ++ r ∷ rules_of rs = append_assoc qs (r ∷ []) (rules_of rs) in
     let long : length qs < 24 = omega (arith, length-append qs (r ∷ rules_of rs)) in
     let s : ltb (length qs) 24 ≡ true = lt-ltb (length qs) 24 long in
-    let t : names_ok ps r ≡ true = names ps r earlier.0 in
+    let t : names_ok (kind_at ps) r ≡ true = names (kind_at ps) r earlier.0 in
     let added : admit_rule l r ≡ Ok more = simp (s, t) in
     let rest = taken_run rs ps (qs ++ r ∷ []) h.1 few (omega (arith, ap length whole)) states earlier.1 in
     ap (λ x. by_added x (λ u. run admit u rs) (λ v. Err v)) added ∙ rest

@@ -1,5 +1,4 @@
 pub mod Admits
 pub mod Fitting
 pub mod PartDevices
-pub mod PartKinds
 pub mod Whole

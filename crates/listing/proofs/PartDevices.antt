@@ -1,8 +1,9 @@
--- A listed part is a rail or a clock, and keeps what every device keeps.
-use Rattle.std.proofs.Common.{◌≡◌, ℕ, refl, arith}
+-- A listed part keeps what every device keeps.
+use Rattle.std.proofs.Common.{◌≡◌, ℕ, refl}
 use Rattle.device.specs.Device.{Sound, any_two}
 use Rattle.device.specs.Figures.{kind_of}
-use Rattle.device.specs.declared.kind.Kind.TheVariants.{Rail, Absent}
+use Rattle.device.specs.Kinds.{clock_no_rail}
+use Rattle.device.specs.declared.kind.Kind.TheVariants.{Rail}
 use Rattle.rails.specs.Sounds.{linear_sound, table_sound}
 use Rattle.clocks.specs.Sounds.{divider_sound, tree_sound}
 use Rattle.listing.specs.Parts.{part_figures, part_model}
@@ -15,15 +16,9 @@ part_sound (Listed d) = table_sound d
 part_sound (Divider d) = divider_sound d
 part_sound (Tree d) = tree_sound d
 
-pub part_there : (x : Part) → kind_of (part_figures x) ≡ Absent → ⊥
-part_there (Linear d) e = let z : ◌≡◌ {A = ℕ} 0 1 = cc in omega arith
-part_there (Listed d) e = let z : ◌≡◌ {A = ℕ} 0 1 = cc in omega arith
-part_there (Divider d) e = let z : ◌≡◌ {A = ℕ} 0 1 = cc in omega arith
-part_there (Tree d) e = let z : ◌≡◌ {A = ℕ} 0 1 = cc in omega arith
-
 -- one write joins any two different codes of a rail
 pub rail_free : (x : Part) (a b : ℕ) → kind_of (part_figures x) ≡ Rail → (part_model x).linked a b ≡ any_two (part_model x).count a b
 rail_free (Linear d) a b e = refl
 rail_free (Listed d) a b e = refl
-rail_free (Divider d) a b e = let z : ◌≡◌ {A = ℕ} 0 1 = cc in absurd (omega arith)
-rail_free (Tree d) a b e = let z : ◌≡◌ {A = ℕ} 0 1 = cc in absurd (omega arith)
+rail_free (Divider d) a b e = absurd (clock_no_rail e)
+rail_free (Tree d) a b e = absurd (clock_no_rail e)

@@ -6,7 +6,7 @@
 --   OnlyFull     such bytes are sent back only for want of memory
 --   NotAdded     a record that is not taken in
 use Rattle.std.specs.Prelude.{◌≡◌, ℕ, ◌⊎◌, List, map, Err, vec_items, Result}
-use Rattle.std.specs.List.{AllByRecursion}
+use Rattle.std.specs.List.{All}
 use Rattle.answer.specs.declared.refusal.Refusal.{Refusal}
 use Rattle.answer.specs.declared.fault.Fault.{Fault}
 use Rattle.answer.specs.Faults.{table_fault, memory_fault}
@@ -24,7 +24,7 @@ lists_of l = record { parts = map part_figures (vec_items l.parts); rules = vec_
 
 -- every part at code 0, with no write counted
 abbrev pub AllFresh : Listing → Type 0
-AllFresh l = AllByRecursion (λ p. Fresh (part_model p)) (vec_items l.parts)
+AllFresh l = All (λ p. Fresh (part_model p)) (vec_items l.parts)
 
 -- the listing is what the bytes list, and its parts are as made
 pub record Read (bs : List ℕ) (l : Listing) : Type 0 where

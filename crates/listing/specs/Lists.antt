@@ -4,18 +4,18 @@
 --   kind_at   the kind of a part by its number
 --   admit     a record taken in, or the reason why not
 --   listing   what the bytes of a table list, or why and where it is sent back
---   Names     a rule names parts that are there, of the right kind
 --   Fits      records that make the table of a board
-use Rattle.std.specs.Prelude.{◌≡◌, ℕ, zero, suc, ◌*◌, ◌≤◌, Bool, true, false, cond, not, ◌&&◌, List, [], ◌∷◌, ◌++◌, length, Ok, Err, Result, ◌==◌, ◌≢◌, nat_le, nat_lt}
+use Rattle.std.specs.Prelude.{ℕ, ◌*◌, ◌≤◌, cond, ◌&&◌, List, [], ◌∷◌, ◌++◌, length, Option, Ok, Err, Result, ◌==◌, nat_le, nat_lt}
+use Rattle.std.specs.List.{slice_get}
+use Rattle.std.specs.Option.{option_map}
 use Rattle.answer.specs.declared.refusal.Refusal.{Refusal}
 use Rattle.answer.specs.declared.refusal.Refusal.TheVariants.{TooMany, WrongPart, NoPart}
 use Rattle.device.specs.Figures.{Figures, kind_of, codes_of}
 use Rattle.device.specs.declared.kind.Kind.{Kind}
-use Rattle.device.specs.declared.kind.Kind.TheVariants.{Rail, Clock, Absent}
+use Rattle.table.specs.Names.{names_ok, Names}
 use Rattle.table.specs.Records.{Rec, part, rule}
 use Rattle.table.specs.Reading.{Verdict, accepted, sent_back, walk}
 use Rattle.table.specs.declared.rule.Rule.{Rule}
-use Rattle.table.specs.declared.rule.Rule.TheVariants.{Window, Spread, Step, Need, Cap}
 
 -- the parts and the rules that a table lists
 pub record Lists : Type 0 where
@@ -27,31 +27,9 @@ abbrev pub product : List Figures → ℕ
 product [] = 1
 product (f ∷ fs) = codes_of f * product fs
 
--- the kind of the part of this number
-abbrev pub kind_at : List Figures → ℕ → Kind
-kind_at [] p = Absent
-kind_at (f ∷ fs) zero = kind_of f
-kind_at (f ∷ fs) (suc p) = kind_at fs p
-
--- a rail
-abbrev pub is_rail : Kind → Bool
-is_rail Rail = true
-is_rail Clock = false
-is_rail Absent = false
-
--- a clock
-abbrev pub is_clock : Kind → Bool
-is_clock Rail = false
-is_clock Clock = true
-is_clock Absent = false
-
--- whether a rule names rails and clocks that are there, and no rail twice
-abbrev pub names_ok : List Figures → Rule → Bool
-names_ok ps (Window rail floor ceiling) = is_rail (kind_at ps rail)
-names_ok ps (Spread rail other most) = is_rail (kind_at ps rail) && (is_rail (kind_at ps other) && not (rail == other))
-names_ok ps (Step rail most) = is_rail (kind_at ps rail)
-names_ok ps (Need clock above rail least) = is_clock (kind_at ps clock) && is_rail (kind_at ps rail)
-names_ok ps (Cap clock most) = is_clock (kind_at ps clock)
+-- the kind of the part of this number, none of an absent one
+abbrev pub kind_at : List Figures → ℕ → Option Kind
+kind_at fs p = option_map kind_of (slice_get fs p)
 
 -- one part more: at most six, and at most 4,096 states
 abbrev pub admit_part : Lists → Figures → Result Lists Refusal
@@ -63,7 +41,7 @@ admit_part l f =
 abbrev pub admit_rule : Lists → Rule → Result Lists Refusal
 admit_rule l r =
     cond (nat_lt (length l.rules) 24)
-    (cond (names_ok l.parts r) (Ok (record { parts = l.parts; rules = l.rules ++ r ∷ [] })) (Err WrongPart))
+    (cond (names_ok (kind_at l.parts) r) (Ok (record { parts = l.parts; rules = l.rules ++ r ∷ [] })) (Err WrongPart))
     (Err TooMany)
 
 -- a record taken in, or the reason why not
@@ -96,19 +74,11 @@ rules_of [] = []
 rules_of (part f ∷ rs) = rules_of rs
 rules_of (rule r ∷ rs) = r ∷ rules_of rs
 
--- a rule names rails and clocks that are there, and a spread two different rails
-abbrev pub Names : List Figures → Rule → Type 0
-Names ps (Window rail floor ceiling) = kind_at ps rail ≡ Rail
-Names ps (Spread rail other most) = (kind_at ps rail ≡ Rail) × (kind_at ps other ≡ Rail) × (rail ≢ other)
-Names ps (Step rail most) = kind_at ps rail ≡ Rail
-Names ps (Need clock above rail least) = (kind_at ps clock ≡ Clock) × (kind_at ps rail ≡ Rail)
-Names ps (Cap clock most) = kind_at ps clock ≡ Clock
-
 -- each rule names parts of the records before it
 abbrev pub NamesEarlier : List Figures → List Rec → Type 0
 NamesEarlier seen [] = Unit {0}
 NamesEarlier seen (part f ∷ rs) = NamesEarlier (seen ++ f ∷ []) rs
-NamesEarlier seen (rule r ∷ rs) = Names seen r × NamesEarlier seen rs
+NamesEarlier seen (rule r ∷ rs) = Names (kind_at seen) r × NamesEarlier seen rs
 
 -- records that make the table of a board
 pub record Fits (rs : List Rec) : Type 0 where

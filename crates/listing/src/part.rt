@@ -5,8 +5,7 @@ ghost use Rattle.device.specs.Figures.{kind_of};
 ghost use Rattle.listing.specs.Parts.{part_figures, part_model};
 
 use clocks::{DividerClock, TreeClock};
-use device::regulator::any_two;
-use device::{Answer, Clock, Code, Kind, Regulator};
+use device::{Answer, Code, Device, Kind, Supplied};
 use rails::{LinearRail, TableRail};
 
 #[derive(Drop)]
@@ -23,10 +22,8 @@ impl Part {
         ensures { result ≡ kind_of (part_figures self.now) }
     {
         match self {
-            Part::Linear(_) => Kind::Rail,
-            Part::Listed(_) => Kind::Rail,
-            Part::Divider(_) => Kind::Clock,
-            Part::Tree(_) => Kind::Clock,
+            Part::Linear(_) | Part::Listed(_) => Kind::Rail,
+            Part::Divider(_) | Part::Tree(_) => Kind::Clock,
         }
     }
 
@@ -59,8 +56,8 @@ impl Part {
         ensures { result ≡ (part_model self.now).linked from to }
     {
         match self {
-            Part::Linear(rail) => any_two(rail.count(), from, to),
-            Part::Listed(rail) => any_two(rail.count(), from, to),
+            Part::Linear(rail) => rail.linked(from, to),
+            Part::Listed(rail) => rail.linked(from, to),
             Part::Divider(clock) => clock.linked(from, to),
             Part::Tree(clock) => clock.linked(from, to),
         }

@@ -1,7 +1,7 @@
 // The reading of a whole table.
 ghost use Rattle.std.specs.Prelude.{◌≡◌, true, Ok, MatchResult};
 ghost use Rattle.table.specs.Answered.{SentBack, placed_record};
-ghost use Rattle.listing.specs.Listed.{lists_of, AllFresh, NotAdded, Read, BoardTable, OnlyFull};
+ghost use Rattle.listing.specs.Listed.{lists_of, NotAdded, Read, BoardTable, OnlyFull};
 ghost use Rattle.listing.specs.Lists.{nothing, admit as taken, listing as listed, product};
 ghost use Rattle.table.specs.Records.{in_range};
 
@@ -28,7 +28,7 @@ impl Listing {
     }
 
     // The number of states: the product of the parts' counts.
-    pub fn states(&self) -> u32
+    pub fn states(&self) -> usize
         ensures { result ≡ product (lists_of self.now).parts }
     {
         self.states
@@ -48,8 +48,7 @@ impl Listing {
 
     // Nothing listed yet.
     fn empty(heap: Global) -> Listing
-        ensures lists { lists_of result ≡ nothing }
-        ensures fresh { AllFresh result }
+        ensures { lists_of result ≡ nothing }
     {
         Listing {
             parts: Vec::new(heap),
@@ -61,8 +60,7 @@ impl Listing {
     // One record more.
     fn add(&mut self, heap: Global, placed: Placed<'_>) -> Result<(), Fault>
         requires { in_range (placed_record placed) ≡ true }
-        ensures added { MatchResult result (λ _. taken (lists_of self.old) (placed_record placed.entry) ≡ Ok (lists_of self.new)) (λ f. NotAdded (taken (lists_of self.old) (placed_record placed.entry)) placed.entry.number f) }
-        ensures fresh { AllFresh self.old → AllFresh self.new }
+        ensures { MatchResult result (λ _. taken (lists_of self.old) (placed_record placed.entry) ≡ Ok (lists_of self.new)) (λ f. NotAdded (taken (lists_of self.old) (placed_record placed.entry)) placed.entry.number f) }
     {
         match make(heap, placed.record)? {
             Entry::Part(part) => self.add_part(part, placed.number),

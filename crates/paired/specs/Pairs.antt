@@ -1,5 +1,5 @@
 -- A pair of banks keeps what every bank keeps.
-use Rattle.std.specs.Prelude.{◌≡◌, ℕ, ◌-◌, ◌<◌, ◌≤◌, true, false, ◌⊎◌, nat_lt}
+use Rattle.std.specs.Prelude.{◌≡◌, ℕ, ◌-◌, ◌<◌, ◌≤◌, true, false, Option, Some, None, ◌⊎◌, nat_lt}
 use Rattle.std.proofs.Math.Path.{sym, subst}
 use Rattle.std.proofs.Common.{◌∙◌, arith}
 use Rattle.std.proofs.Math.Logic.{inl, inr}
@@ -7,7 +7,7 @@ use Rattle.std.proofs.lemmas.Bool.{cases_lt, lt-ltb, le-ltb}
 use Rattle.device.specs.Device.{Device, any_two, no_device}
 use Rattle.device.specs.Device as device
 use Rattle.device.specs.declared.kind.Kind.{Kind}
-use Rattle.device.specs.declared.kind.Kind.TheVariants.{Rail, Absent}
+use Rattle.device.specs.declared.kind.Kind.TheVariants.{Rail}
 use Rattle.bank.specs.Banks.{BankModel, Sound, pair_of}
 
 module _ (a b : BankModel) where
@@ -19,7 +19,7 @@ module _ (a b : BankModel) where
   OfSecond p = (p < 32) × (a.parts ≤ p) × ((pair_of a b).kind p ≡ b.kind (p - a.parts)) × ((pair_of a b).device p ≡ b.device (p - a.parts))
 
   Hidden : ℕ → Type 0
-  Hidden p = (32 ≤ p) × ((pair_of a b).kind p ≡ Absent) × ((pair_of a b).device p ≡ no_device)
+  Hidden p = (32 ≤ p) × ((pair_of a b).kind p ≡ None) × ((pair_of a b).device p ≡ no_device)
 
   place : (p : ℕ) → OfFirst p ⊎ (OfSecond p ⊎ Hidden p)
   unfolding OfFirst OfSecond Hidden
@@ -61,6 +61,6 @@ module _ (a b : BankModel) where
     free = λ p c d e. elim (place p) [
       | inl w ↦ subst (λ (v : Device). v.linked c d ≡ any_two v.count c d) (sym w.3) (x.free p c d (sym w.2 ∙ e))
       | inr (inl w) ↦ subst (λ (v : Device). v.linked c d ≡ any_two v.count c d) (sym w.3) (y.free (p - a.parts) c d (sym w.2 ∙ e))
-      | inr (inr w) ↦ let z : ◌≡◌ {A = Kind} Absent Rail = sym w.1 ∙ e in let n : ◌≡◌ {A = ℕ} 0 1 = cc in absurd (omega arith)
+      | inr (inr w) ↦ let z : ◌≡◌ {A = Option Kind} None (Some Rail) = sym w.1 ∙ e in let n : ◌≡◌ {A = ℕ} 0 1 = cc in absurd (omega arith)
     ];
   }

@@ -5,9 +5,17 @@
 ghost use Rattle.bank.specs.Banks.{pair_of};
 ghost use Rattle.std.specs.Prelude.{◌≡◌};
 ghost use Rattle.paired.specs.Pairs.{pair_sound};
+ghost use Rattle.paired.specs.Places.{Stands};
 
 use bank::{Bank, MOST_SHOWN};
 use device::{Answer, Code, Kind};
+
+// Which bank of a pair has a part, and the part's number there.
+#[derive(Clone, Copy, Debug, PartialEq, Eq)]
+enum Place {
+    First(u8),
+    Second(u8),
+}
 
 // Any two banks, one after the other.
 #[derive(Drop)]
@@ -22,6 +30,20 @@ impl<A: Bank, B: Bank> Pair<A, B> {
     {
         Pair { first, second }
     }
+
+    // Where a part stands, none past those that are shown.
+    fn place(&self, part: u8) -> Option<Place>
+        ensures { Stands (A.Bank.model self.now.first) part result }
+    {
+        let shift = self.first.parts();
+        if part >= MOST_SHOWN {
+            None
+        } else if part < shift {
+            Some(Place::First(part))
+        } else {
+            Some(Place::Second(part - shift))
+        }
+    }
 }
 
 impl<A: Bank, B: Bank> Bank for Pair<A, B> {
@@ -34,87 +56,59 @@ impl<A: Bank, B: Bank> Bank for Pair<A, B> {
         all.min(MOST_SHOWN)
     }
 
-    fn kind(&self, part: u8) -> Kind {
-        if part >= MOST_SHOWN {
-            return Kind::Absent;
-        }
-        let shift = self.first.parts();
-        if part < shift {
-            self.first.kind(part)
-        } else {
-            self.second.kind(part - shift)
+    fn kind(&self, part: u8) -> Option<Kind> {
+        match self.place(part) {
+            Some(Place::First(at)) => self.first.kind(at),
+            Some(Place::Second(at)) => self.second.kind(at),
+            None => None,
         }
     }
 
     fn count(&self, part: u8) -> Code {
-        if part >= MOST_SHOWN {
-            return 0;
-        }
-        let shift = self.first.parts();
-        if part < shift {
-            self.first.count(part)
-        } else {
-            self.second.count(part - shift)
+        match self.place(part) {
+            Some(Place::First(at)) => self.first.count(at),
+            Some(Place::Second(at)) => self.second.count(at),
+            None => 0,
         }
     }
 
     fn level(&self, part: u8, code: Code) -> u32 {
-        if part >= MOST_SHOWN {
-            return 0;
-        }
-        let shift = self.first.parts();
-        if part < shift {
-            self.first.level(part, code)
-        } else {
-            self.second.level(part - shift, code)
+        match self.place(part) {
+            Some(Place::First(at)) => self.first.level(at, code),
+            Some(Place::Second(at)) => self.second.level(at, code),
+            None => 0,
         }
     }
 
     fn linked(&self, part: u8, from: Code, to: Code) -> bool {
-        if part >= MOST_SHOWN {
-            return false;
-        }
-        let shift = self.first.parts();
-        if part < shift {
-            self.first.linked(part, from, to)
-        } else {
-            self.second.linked(part - shift, from, to)
+        match self.place(part) {
+            Some(Place::First(at)) => self.first.linked(at, from, to),
+            Some(Place::Second(at)) => self.second.linked(at, from, to),
+            None => false,
         }
     }
 
     fn code(&self, part: u8) -> Code {
-        if part >= MOST_SHOWN {
-            return 0;
-        }
-        let shift = self.first.parts();
-        if part < shift {
-            self.first.code(part)
-        } else {
-            self.second.code(part - shift)
+        match self.place(part) {
+            Some(Place::First(at)) => self.first.code(at),
+            Some(Place::Second(at)) => self.second.code(at),
+            None => 0,
         }
     }
 
     fn tally(&self, part: u8) -> u64 {
-        if part >= MOST_SHOWN {
-            return 0;
-        }
-        let shift = self.first.parts();
-        if part < shift {
-            self.first.tally(part)
-        } else {
-            self.second.tally(part - shift)
+        match self.place(part) {
+            Some(Place::First(at)) => self.first.tally(at),
+            Some(Place::Second(at)) => self.second.tally(at),
+            None => 0,
         }
     }
 
     fn write(&mut self, part: u8, code: Code) -> Answer {
-        if part >= MOST_SHOWN {
-            return Answer::NoSuchWrite;
-        }
-        let shift = self.first.parts();
-        if part < shift {
-            self.first.write(part, code)
-        } else {
-            self.second.write(part - shift, code)
+        match self.place(part) {
+            Some(Place::First(at)) => self.first.write(at, code),
+            Some(Place::Second(at)) => self.second.write(at, code),
+            None => Answer::NoSuchWrite,
         }
     }
 }

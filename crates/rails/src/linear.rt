@@ -1,17 +1,17 @@
 // The linear rail: level = lowest + code × step.
-ghost use Rattle.std.specs.Prelude.{◌≡◌, nat_lt, refl};
-ghost use Rattle.device.specs.Device.{Written, Willing, set_on};
+ghost use Rattle.std.specs.Prelude.{◌≡◌, refl};
+ghost use Rattle.device.specs.Device.{Written, Willing};
 ghost use Rattle.device.specs.Figures.{linear, Made};
+ghost use Rattle.device.specs.declared.kind.Kind.TheVariants.{Rail};
 ghost use Rattle.rails.specs.Supplied.{linear_figures, linear_model};
 ghost use Rattle.rails.specs.Sounds.{linear_sound};
 
 use super::LinearRail;
 use answer::{Fault, Refusal};
-use device::Code;
-use device::answers::Answer;
+use device::devices::any_two;
 use device::limits::is_linear;
 use device::register::Register;
-use device::regulator::Regulator;
+use device::{Answer, Code, Device, Kind, Regulator, Supplied};
 
 impl LinearRail {
     // A rail at code 0, or 4 where a figure or a level is out of its range.
@@ -28,27 +28,18 @@ impl LinearRail {
             register: Register::new(),
         })
     }
-
-    // Puts the rail on a code that it has, without a write: the tally stays. An absent code is no, and changes nothing.
-    pub fn set(&mut self, code: Code) -> bool
-        ensures has { result ≡ nat_lt code (linear_model self.old).count }
-        ensures put { linear_model self.new ≡ set_on (linear_model self.old) code }
-    {
-        if code < self.count() {
-            self.register.set(code);
-            true
-        } else {
-            false
-        }
-    }
 }
 
-impl Regulator for LinearRail {
+impl Device for LinearRail {
     ghost model = { linear_model };
+
+    ghost KIND = { Rail };
+
+    const KIND: Kind = Kind::Rail;
 
     ghost sound = { linear_sound };
 
-    ghost free = { λ _ _ _. refl };
+    ghost free = { λ _ _ _ _. refl };
 
     fn count(&self) -> Code {
         self.count
@@ -60,6 +51,10 @@ impl Regulator for LinearRail {
         } else {
             0
         }
+    }
+
+    fn linked(&self, from: Code, to: Code) -> bool {
+        any_two(self.count(), from, to)
     }
 
     fn code(&self) -> Code {
@@ -74,11 +69,18 @@ impl Regulator for LinearRail {
         ensures written { Written (linear_model self.old) code result (linear_model self.new) }
         ensures willing { Willing (linear_model self.old) code result }
     {
-        if code < self.count && code != self.code() {
-            self.register.put(code);
-            Answer::Done
-        } else {
-            Answer::NoSuchWrite
-        }
+        let exists = self.linked(self.code(), code);
+        self.register.write(exists, code)
+    }
+}
+
+impl Regulator for LinearRail {
+    ghost rail = { refl };
+}
+
+impl Supplied for LinearRail {
+    fn set(&mut self, code: Code) -> bool {
+        let count = self.count();
+        self.register.set_below(count, code)
     }
 }

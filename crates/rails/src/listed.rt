@@ -1,24 +1,24 @@
 // The table rail: a list has the level of each code.
-ghost use Rattle.std.specs.Prelude.{◌≡◌, nat_lt, refl};
-ghost use Rattle.device.specs.Device.{Written, Willing, set_on};
+ghost use Rattle.std.specs.Prelude.{◌≡◌, refl};
+ghost use Rattle.device.specs.Device.{Written, Willing};
 ghost use Rattle.device.specs.Figures.{listed, Made};
+ghost use Rattle.device.specs.declared.kind.Kind.TheVariants.{Rail};
 ghost use Rattle.rails.specs.Supplied.{table_figures, table_model};
 ghost use Rattle.rails.specs.Sounds.{table_sound};
 
 use super::TableRail;
 use answer::{Fault, Refusal};
-use device::answers::Answer;
+use device::devices::any_two;
 use device::limits::are_levels;
 use device::register::Register;
-use device::regulator::Regulator;
-use device::{Code, MOST_CODES};
+use device::{Answer, Code, Device, Kind, MOST_CODES, Regulator, Supplied};
 
 impl TableRail {
     // A rail at code 0, or 3 for a list of a wrong length, else 4 for a level out of its range.
     pub fn new(levels: Vec<u32>) -> Result<TableRail, Fault>
         ensures { Made table_figures table_model (listed levels.items) result }
     {
-        if levels.len() < 1 || levels.len() > usize::from(MOST_CODES) {
+        if !(1..=usize::from(MOST_CODES)).contains(&levels.len()) {
             return Err(Fault::table(Refusal::WrongLength, 0));
         }
         if !are_levels(&levels) {
@@ -29,39 +29,29 @@ impl TableRail {
             register: Register::new(),
         })
     }
-
-    // Puts the rail on a code that it has, without a write: the tally stays. An absent code is no, and changes nothing.
-    pub fn set(&mut self, code: Code) -> bool
-        ensures has { result ≡ nat_lt code (table_model self.old).count }
-        ensures put { table_model self.new ≡ set_on (table_model self.old) code }
-    {
-        if code < self.count() {
-            self.register.set(code);
-            true
-        } else {
-            false
-        }
-    }
 }
 
-impl Regulator for TableRail {
+impl Device for TableRail {
     ghost model = { table_model };
+
+    ghost KIND = { Rail };
+
+    const KIND: Kind = Kind::Rail;
 
     ghost sound = { table_sound };
 
-    ghost free = { λ _ _ _. refl };
+    ghost free = { λ _ _ _ _. refl };
 
     fn count(&self) -> Code {
         self.levels.len() as Code
     }
 
     fn level(&self, code: Code) -> u32 {
-        let place = usize::from(code);
-        if place < self.levels.len() {
-            self.levels[place]
-        } else {
-            0
-        }
+        self.levels.get(usize::from(code)).copied().unwrap_or(0)
+    }
+
+    fn linked(&self, from: Code, to: Code) -> bool {
+        any_two(self.count(), from, to)
     }
 
     fn code(&self) -> Code {
@@ -76,11 +66,18 @@ impl Regulator for TableRail {
         ensures written { Written (table_model self.old) code result (table_model self.new) }
         ensures willing { Willing (table_model self.old) code result }
     {
-        if code < self.count() && code != self.code() {
-            self.register.put(code);
-            Answer::Done
-        } else {
-            Answer::NoSuchWrite
-        }
+        let exists = self.linked(self.code(), code);
+        self.register.write(exists, code)
+    }
+}
+
+impl Regulator for TableRail {
+    ghost rail = { refl };
+}
+
+impl Supplied for TableRail {
+    fn set(&mut self, code: Code) -> bool {
+        let count = self.count();
+        self.register.set_below(count, code)
     }
 }

@@ -1,23 +1,23 @@
 -- The test of a rule's names tells that it names what is there, and the other way round.
-use Rattle.std.proofs.Common.{◌≡◌, ℕ, true, not, ◌&&◌, eqb, refl, ap, arith}
-use Rattle.std.proofs.lemmas.Bool.{and_parts, and_from, eqb-false, ne_eqb, not-true, not_from_false}
+use Rattle.std.proofs.Common.{◌≡◌, ℕ, true, not, ◌&&◌, Option, Some, None, eqb, refl, ap, arith}
+use Rattle.std.proofs.lemmas.Bool.{and_parts, and_from, eqb-false, ne_eqb, not-true, not_from_false, false≢true}
 use Rattle.device.specs.declared.kind.Kind.{Kind}
-use Rattle.device.specs.declared.kind.Kind.TheVariants.{Rail, Clock, Absent}
+use Rattle.device.specs.declared.kind.Kind.TheVariants.{Rail, Clock}
 use Rattle.table.specs.Names.{is_rail, is_clock, names_ok, Names}
 use Rattle.table.specs.declared.rule.Rule.{Rule}
 use Rattle.table.specs.declared.rule.Rule.TheVariants.{Window, Spread, Step, Need, Cap}
 
-rail_is : (k : Kind) → is_rail k ≡ true → k ≡ Rail
-rail_is Rail h = refl
-rail_is Clock h = let z : ◌≡◌ {A = ℕ} 0 1 = cc in absurd (omega arith)
-rail_is Absent h = let z : ◌≡◌ {A = ℕ} 0 1 = cc in absurd (omega arith)
+rail_is : (k : Option Kind) → is_rail k ≡ true → k ≡ Some Rail
+rail_is (Some Rail) h = refl
+rail_is (Some Clock) h = absurd (false≢true h)
+rail_is None h = absurd (false≢true h)
 
-clock_is : (k : Kind) → is_clock k ≡ true → k ≡ Clock
-clock_is Rail h = let z : ◌≡◌ {A = ℕ} 0 1 = cc in absurd (omega arith)
-clock_is Clock h = refl
-clock_is Absent h = let z : ◌≡◌ {A = ℕ} 0 1 = cc in absurd (omega arith)
+clock_is : (k : Option Kind) → is_clock k ≡ true → k ≡ Some Clock
+clock_is (Some Rail) h = absurd (false≢true h)
+clock_is (Some Clock) h = refl
+clock_is None h = absurd (false≢true h)
 
-pub named : (kind : ℕ → Kind) (r : Rule) → names_ok kind r ≡ true → Names kind r
+pub named : (kind : ℕ → Option Kind) (r : Rule) → names_ok kind r ≡ true → Names kind r
 named kind (Window rail floor ceiling) h = rail_is (kind rail) h
 named kind (Spread rail other most) h =
     let p = and_parts (is_rail (kind rail)) (is_rail (kind other) && not (eqb rail other)) h in
@@ -29,7 +29,7 @@ named kind (Need clock above rail least) h =
     (clock_is (kind clock) p.0, rail_is (kind rail) p.1)
 named kind (Cap clock most) h = clock_is (kind clock) h
 
-pub names : (kind : ℕ → Kind) (r : Rule) → Names kind r → names_ok kind r ≡ true
+pub names : (kind : ℕ → Option Kind) (r : Rule) → Names kind r → names_ok kind r ≡ true
 names kind (Window rail floor ceiling) h = ap is_rail h
 names kind (Spread rail other most) h =
     and_from (is_rail (kind rail)) (is_rail (kind other) && not (eqb rail other)) (ap is_rail h.0)

@@ -20,14 +20,14 @@ at_cursor : (c : In-Some) → Here c.args.table.now c.in-Some.placed c.records.r
 at_cursor c =
     here c.args.table.now c.records.reader.table.now c.in_ok-placed.field-0 c.in-Some.placed
     c.records.reader.number c.records.reader.at c.next.new.self.number c.next.new.self.at
-    (bytes_from c.args.table.now c.type_inv.table) c.records.invariant.0.same c.in_ok-placed.ensures.read c.in-Some.is
+    (bytes_from c.args.table.now c.type_inv.table) c.records.invariant.same c.in_ok-placed.ensures.read c.in-Some.is
 
 -- the whole table, read to its end
 at_end : (c : In_default) → walk admit 0 0 nothing c.args.table.now ≡ accepted c.records.reader.number (lists_of c.records.listing)
 at_end c =
     way_all admit nothing c.args.table.now c.records.reader.table.now (lists_of c.records.listing) c.in_ok-placed.field-0
     c.records.reader.number c.records.reader.at c.next.new.self.number c.next.new.self.at
-    c.records.invariant.0 c.in_ok-placed.ensures.read c.in_default.is
+    c.records.invariant c.in_ok-placed.ensures.read c.in_default.is
 
 -- the reader stays where it is at the end
 moved_not : (c : In_default) → c.next.new.self.number ≡ c.records.reader.number
@@ -36,10 +36,8 @@ moved_not c =
     c.in_ok-placed.ensures.read c.in_default.is
 
 pub records-init : goal.records-init
-records-init c = (
-  way_none admit nothing c.args.table.now _ _ _ _ c.new-reader.ensures.bytes c.empty-listing.ensures.lists c.new-reader.ensures.number c.new-reader.ensures.cursor,
-  c.empty-listing.ensures.fresh,
-)
+records-init c =
+    way_none admit nothing c.args.table.now _ _ _ _ c.new-reader.ensures.bytes c.empty-listing.ensures c.new-reader.ensures.number c.new-reader.ensures.cursor
 
 pub returns-in_err-placed : goal.returns-in_err-placed
 returns-in_err-placed c =
@@ -49,7 +47,7 @@ returns-in_err-placed c =
     listed_back c.args.table.now f
     (way_fault admit nothing c.args.table.now c.records.reader.table.now (lists_of c.records.listing)
     c.records.reader.number c.records.reader.at c.next.new.self.number c.next.new.self.at f
-    c.records.invariant.0 c.in_err-placed.ensures.read) in
+    c.records.invariant c.in_err-placed.ensures.read) in
     rw (p.1, p.2) (record { read = back; exact = only_full c.args.table.now f back })
 
 pub add-requires : goal.add-requires
@@ -62,25 +60,23 @@ records-smaller c =
     (at_cursor (goal.at.records-smaller c).In-Some) c.in_ok-placed.ensures.bytes c.next.new.self.inside
 
 pub records-preserved : goal.records-preserved
-records-preserved c = (
-  way_more admit nothing c.args.table.now c.records.reader.table.now c.next.new.self.table.now (lists_of c.records.listing) (lists_of c.add.new.self) c.in-Some.placed
-      c.records.reader.number c.records.reader.at c.next.new.self.number c.next.new.self.at
-      c.records.invariant.0 c.in_ok-placed.ensures.bytes (at_cursor (goal.at.records-preserved c).In-Some) c.in_ok-add.ensures.added,
-  c.in_ok-add.ensures.fresh c.records.invariant.1,
-)
+records-preserved c =
+    way_more admit nothing c.args.table.now c.records.reader.table.now c.next.new.self.table.now (lists_of c.records.listing) (lists_of c.add.new.self) c.in-Some.placed
+    c.records.reader.number c.records.reader.at c.next.new.self.number c.next.new.self.at
+    c.records.invariant c.in_ok-placed.ensures.bytes (at_cursor (goal.at.records-preserved c).In-Some) c.in_ok-add.ensures
 
 pub returns-in_err-add : goal.returns-in_err-add
 returns-in_err-add c =
     let p = err_from_is_err_and c.from_residual-in_err-add.result c.from_residual-in_err-add.ensures.1 in
     let f = c.in_err-add.field-0.0 in
     let back : SentBack (listing c.args.table.now) f =
-    elim c.in_err-add.ensures.added [
+    elim c.in_err-add.ensures [
       | inl memory ↦ inl memory
       | inr why ↦
           listed_back c.args.table.now f
           (way_not_added admit nothing c.args.table.now c.records.reader.table.now (lists_of c.records.listing) c.in-Some.placed
           c.records.reader.number c.records.reader.at c.next.new.self.number c.next.new.self.at f
-          c.records.invariant.0 (at_cursor (goal.at.returns-in_err-add c).In-Some) why.0 why.1)
+          c.records.invariant (at_cursor (goal.at.returns-in_err-add c).In-Some) why.0 why.1)
     ] in
     rw (p.1, p.2) (record { read = back; exact = only_full c.args.table.now f back })
 
@@ -103,6 +99,6 @@ returns c =
     λ none. eqb-false (vec_len l.parts) 0 (sym c.if-is_empty.ensures) (omega (arith, l.parts.ok.0, length-map (vec_items l.parts) part_figures)) in
     let read = at_end (goal.at.returns c).In_default in
     record {
-      read = record { records = c.records.reader.number; listed = listed bs c.records.reader.number (lists_of l) read some; fresh = c.records.invariant.1 };
+      read = record { records = c.records.reader.number; listed = listed bs c.records.reader.number (lists_of l) read some; fresh = l.fresh };
       exact = board_table bs c.records.reader.number l (bytes_from bs c.type_inv.table) read some;
     }

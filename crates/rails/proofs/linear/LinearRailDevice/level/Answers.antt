@@ -1,5 +1,5 @@
 use Rattle.std.proofs.Common.{◌-◌, ◌≤◌, mul-le-mul_right, arith}
-use Rattle.rails.proofs.linear.LinearRailRegulator.level.Goals as goal
+use Rattle.rails.proofs.linear.LinearRailDevice.level.Goals as goal
 
 pub overflow_mul-result : goal.overflow_mul-result
 overflow_mul-result c =

@@ -1,7 +1,7 @@
 use Rattle.std.proofs.Common.{length, vec_items, arith}
 use Rattle.std.proofs.lemmas.Nat.{div_below}
 use Rattle.clocks.proofs.TreeLevel.{tree_level}
-use Rattle.clocks.proofs.tree.TreeClockClock.level.Goals as goal
+use Rattle.clocks.proofs.tree.TreeClockDevice.level.Goals as goal
 
 pub index-parent-requires : goal.index-parent-requires
 index-parent-requires c =

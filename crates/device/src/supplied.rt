@@ -1,0 +1,13 @@
+// A supplied device: it never balks, and a bench can put it on a code.
+ghost use Rattle.std.specs.Prelude.{◌≡◌, nat_lt};
+ghost use Rattle.device.specs.Device.{set_on};
+
+use super::Code;
+use super::devices::Device;
+
+pub trait Supplied: Device {
+    // Puts the device on a code that it has, without a write: the tally stays. An absent code is no, and changes nothing.
+    fn set(&mut self, code: Code) -> bool
+        ensures has { result ≡ nat_lt code (Self.model self.old).count }
+        ensures put { Self.model self.new ≡ set_on (Self.model self.old) code };
+}
