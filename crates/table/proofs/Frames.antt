@@ -1,13 +1,11 @@
 -- A record's frame: what its checks come to.
-use Rattle.std.proofs.Common.{◌≡◌, ℕ, ◌+◌, ◌-◌, ◌≤◌, Bool, true, cond, leb, List, length, take, drop, Some, Ok, Option, sym, ap, ◌∙◌, subst, arith, length-drop}
+use Rattle.std.proofs.Common.{◌≡◌, ℕ, ◌+◌, ◌-◌, ◌≤◌, Bool, true, cond, leb, List, length, take, drop, Some, sym, ap, ◌∙◌, arith}
 use Rattle.std.proofs.lemmas.Bool.{le-leb}
 use Rattle.answer.specs.declared.refusal.Refusal.TheVariants.{OutOfRange}
 use Rattle.table.specs.Kinds.{body_ok}
-use Rattle.table.specs.Meaning.{First}
 use Rattle.table.specs.Records.{Rec, decode, figures_ok}
 use Rattle.table.specs.Reading.{framed, found, refused}
 use Rattle.table.specs.declared.kind.RecordKind.{RecordKind}
-use Rattle.table.specs.declared.record.Record.{Record}
 
 -- where the length is one of the kind's and the body is there, the figures decide
 pub framed_right : (kind : RecordKind) (size : ℕ) (bs body : List ℕ) (r : Rec) (b : Bool)
@@ -22,11 +20,3 @@ framed_right kind size bs body r b some fits there cut held tested =
     let same : r ≡ decode kind (take (size - 2) (drop 4 bs)) = held ∙ ap (decode kind) (cut ∙ ap (λ n. take n (drop 4 bs)) e) in
     let f : figures_ok (decode kind (take (size - 2) (drop 4 bs))) ≡ b = sym (tested ∙ ap figures_ok same) in
     simp (t, u, k, f) (ap (λ x. cond b (found x (2 + size)) (refused OutOfRange)) (sym same))
-
--- a record that is found lies within the bytes
-pub first_sized : (bs : List ℕ) (o : Option (Record × ℕ)) (r : Record) (size : ℕ) → First bs (Ok o) → o ≡ Some (r, size) → (4 ≤ size) × (size ≤ length bs)
-first_sized bs o r size h e = let f : First bs (Ok (Some (r, size))) = subst (λ x. First bs (Ok x)) e h in (f.1, f.2)
-
--- and the cursor behind it lies within the table
-pub cursor_inside : (bs rest : List ℕ) (at size : ℕ) → at ≤ length bs → rest ≡ drop at bs → size ≤ length rest → at + size ≤ length bs
-cursor_inside bs rest at size h e s = omega (arith, ap length e, length-drop at bs)

@@ -9,7 +9,7 @@ use Rattle.table.specs.Tables.{keep, records_of}
 use Rattle.table.specs.Meaning.{Next}
 use Rattle.table.specs.Answered.{placed_record, PlacedFrom, RecordsRead, SentBack}
 use Rattle.table.specs.declared.record.Placed.{Placed}
-use Rattle.table.proofs.OnTheWay.{OnTheWay, Here, way_none, way_more, way_all, way_fault}
+use Rattle.table.proofs.OnTheWay.{OnTheWay, Here, way_more, way_all, way_fault}
 
 -- what is known where some records were read, with the cursor behind them
 pub record Going (bs table : List ℕ) (ps : List Placed) (number offset : ℕ) : Type 0 where
@@ -29,17 +29,6 @@ placed_more (q ∷ ps) p number offset h n o = (
   placed_more ps p (number + 1) (offset + length (encode (placed_record q))) h.2 (omega arith)
       (omega (arith, length-append (encode (placed_record q)) (flat_map encode (map placed_record ps)))),
 )
-
--- no record yet
-pub going_none : (bs table : List ℕ) (ps : List Placed) (n at : ℕ) → table ≡ bs → ps ≡ [] → n ≡ 0 → at ≡ 0 → Going bs table ps n at
-going_none bs table ps n at e none first begun =
-    let records : map placed_record ps ≡ [] = ap (map placed_record) none in
-    record {
-      count = first ∙ sym (ap length none);
-      placed = subst (λ (qs : List Placed). PlacedFrom 0 0 qs) (sym none) tt;
-      cursor = begun ∙ sym (ap (λ rs. length (flat_map encode rs)) records);
-      way = way_none keep [] bs table (map placed_record ps) n at e records first begun;
-    }
 
 one_more : (bs table table' : List ℕ) (ps : List Placed) (p : Placed) (n at n' at' : ℕ) → Going bs table ps n at → table' ≡ table
     → Here bs p n at n' at' → Going bs table' (ps ++ p ∷ []) n' at'

@@ -1,8 +1,11 @@
 -- The kinds of records.
 --   kind_number   the number of a kind: its one definition, case by case
 --   known         the kind of a number, or none
+--   Decodes       the kind of a number, or the refusal of a number that no kind has
 --   body_ok       how many bytes a body of a kind can have
-use Rattle.std.specs.Prelude.{ℕ, ◌%◌, Bool, cond, ◌&&◌, List, [], ◌∷◌, Some, None, Option, ◌==◌}
+use Rattle.std.specs.Prelude.{◌≡◌, ℕ, ◌%◌, Bool, cond, ◌&&◌, List, [], ◌∷◌, Some, None, Option, Result, MatchResult, ◌==◌}
+use Rattle.answer.specs.declared.refusal.Refusal.{Refusal}
+use Rattle.answer.specs.declared.refusal.Refusal.TheVariants.{UnknownKind}
 use Rattle.device.specs.Figures.{from_to}
 use Rattle.table.specs.declared.kind.RecordKind.{RecordKind}
 use Rattle.table.specs.declared.kind.RecordKind.TheVariants.{LinearRail, TableRail, DividerClock, TreeClock, Window, Spread, Step, Need, Cap}
@@ -31,6 +34,10 @@ numbered (kind ∷ kinds) number = cond (kind_number kind == number) (Some kind)
 -- the kind that has this number, none where no kind has it
 abbrev pub known : ℕ → Option RecordKind
 known number = numbered all_kinds number
+
+-- the kind that has this number, and a refusal where no kind has it
+abbrev pub Decodes : ℕ → Result RecordKind Refusal → Type 0
+Decodes number r = MatchResult r (λ kind. known number ≡ Some kind) (λ why. (known number ≡ None) × (why ≡ UnknownKind))
 
 -- how many bytes a body has: a table rail 1 to 64 levels of four, a tree clock a byte and 1 to 8 parents of four
 abbrev pub body_ok : RecordKind → ℕ → Bool

@@ -2,7 +2,6 @@
 ghost use Rattle.std.specs.Prelude.{◌+◌, Some};
 ghost use Rattle.table.specs.Meaning.{First, Framed};
 
-use super::bytes::half;
 use super::kind::RecordKind;
 use super::range::in_range;
 use super::record::{Record, decode};
@@ -34,11 +33,10 @@ pub(crate) fn first<'a>(rest: &'a [u8]) -> Result<Option<(Record<'a>, usize)>, R
     if rest.is_empty() {
         return Ok(None);
     }
-    if rest.len() < 4 {
+    let &[size_low, size_high, kind_low, kind_high, ..] = rest else {
         return Err(Refusal::Truncated);
-    }
-    match RecordKind::of(half(rest, 2)) {
-        Some(kind) => Ok(Some(framed(kind, usize::from(half(rest, 0)), rest)?)),
-        None => Err(Refusal::UnknownKind),
-    }
+    };
+    let kind = RecordKind::try_from(u16::from_le_bytes([kind_low, kind_high]))?;
+    let size = u16::from_le_bytes([size_low, size_high]);
+    framed(kind, usize::from(size), rest).map(Some)
 }

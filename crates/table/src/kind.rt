@@ -1,18 +1,42 @@
 // The kinds of records that a table has.
 ghost use Rattle.std.specs.Prelude.{◌≡◌};
-ghost use Rattle.table.specs.Kinds.{kind_number, known, body_ok};
+ghost use Rattle.table.specs.Kinds.{kind_number, Decodes, body_ok};
 
-#[derive(Clone, Copy)]
+use answer::Refusal;
+
+#[derive(Clone, Copy, Debug, PartialEq, Eq)]
 pub enum RecordKind {
-    LinearRail,
-    TableRail,
-    DividerClock,
-    TreeClock,
-    Window,
-    Spread,
-    Step,
-    Need,
-    Cap,
+    LinearRail = 1,
+    TableRail = 2,
+    DividerClock = 3,
+    TreeClock = 4,
+    Window = 5,
+    Spread = 6,
+    Step = 7,
+    Need = 8,
+    Cap = 9,
+}
+
+impl TryFrom<u16> for RecordKind {
+    type Error = Refusal;
+
+    ghost try_from_gives = { Decodes };
+
+    // The kind of this number, refused where no kind has it.
+    fn try_from(number: u16) -> Result<Self, Refusal> {
+        match number {
+            1 => Ok(RecordKind::LinearRail),
+            2 => Ok(RecordKind::TableRail),
+            3 => Ok(RecordKind::DividerClock),
+            4 => Ok(RecordKind::TreeClock),
+            5 => Ok(RecordKind::Window),
+            6 => Ok(RecordKind::Spread),
+            7 => Ok(RecordKind::Step),
+            8 => Ok(RecordKind::Need),
+            9 => Ok(RecordKind::Cap),
+            _ => Err(Refusal::UnknownKind),
+        }
+    }
 }
 
 impl RecordKind {
@@ -20,35 +44,7 @@ impl RecordKind {
     pub fn number(&self) -> u16
         ensures { result ≡ kind_number self.now }
     {
-        match self {
-            RecordKind::LinearRail => 1,
-            RecordKind::TableRail => 2,
-            RecordKind::DividerClock => 3,
-            RecordKind::TreeClock => 4,
-            RecordKind::Window => 5,
-            RecordKind::Spread => 6,
-            RecordKind::Step => 7,
-            RecordKind::Need => 8,
-            RecordKind::Cap => 9,
-        }
-    }
-
-    // The kind of this number, none where no kind has it.
-    pub fn of(number: u16) -> Option<RecordKind>
-        ensures { result ≡ known number }
-    {
-        match number {
-            1 => Some(RecordKind::LinearRail),
-            2 => Some(RecordKind::TableRail),
-            3 => Some(RecordKind::DividerClock),
-            4 => Some(RecordKind::TreeClock),
-            5 => Some(RecordKind::Window),
-            6 => Some(RecordKind::Spread),
-            7 => Some(RecordKind::Step),
-            8 => Some(RecordKind::Need),
-            9 => Some(RecordKind::Cap),
-            _ => None,
-        }
+        *self as u16
     }
 
     // Whether a record of this kind can have a body of that many bytes.
@@ -57,9 +53,9 @@ impl RecordKind {
     {
         match self {
             RecordKind::LinearRail => body == 9,
-            RecordKind::TableRail => body % 4 == 0 && body >= 4 && body <= 256,
+            RecordKind::TableRail => body % 4 == 0 && (4..=256).contains(&body),
             RecordKind::DividerClock => body == 5,
-            RecordKind::TreeClock => body % 4 == 1 && body >= 5 && body <= 33,
+            RecordKind::TreeClock => body % 4 == 1 && (5..=33).contains(&body),
             RecordKind::Window => body == 9,
             RecordKind::Spread => body == 6,
             RecordKind::Step => body == 5,

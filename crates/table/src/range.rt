@@ -5,7 +5,6 @@ ghost use Rattle.table.specs.Bytes.{words};
 ghost use Rattle.table.specs.Meaning.{meant};
 ghost use Rattle.table.specs.Records.{figures_ok, rule_ok, figure_ok};
 
-use super::bytes::{after, word};
 use super::record::Record;
 use super::rule::Rule;
 use device::limits::{is_divider, is_divisors, is_level, is_linear};
@@ -22,26 +21,20 @@ fn is_figure(figure: u32) -> bool
 fn are_levels(bytes: &[u8]) -> bool
     ensures { result ≡ levels_ok (words bytes.now) }
 {
-    let mut rest = bytes;
-    'listed: while rest.len() >= 4 {
-        if !is_level(word(rest, 0)) {
-            return false;
-        }
-        rest = after(rest, 4);
-    }
-    true
+    let (fours, _) = bytes.as_chunks();
+    fours.iter().copied().map(u32::from_le_bytes).all(is_level)
 }
 
 // The figures of a rule in their ranges.
 fn is_rule(rule: &Rule) -> bool
     ensures { result ≡ rule_ok rule.now }
 {
-    match rule {
-        Rule::Window { floor, ceiling, .. } => *floor <= *ceiling && is_figure(*ceiling),
-        Rule::Spread { most, .. } => is_figure(*most),
-        Rule::Step { most, .. } => is_figure(*most),
-        Rule::Need { above, least, .. } => is_figure(*above) && is_figure(*least),
-        Rule::Cap { most, .. } => is_figure(*most),
+    match *rule {
+        Rule::Window { floor, ceiling, .. } => floor <= ceiling && is_figure(ceiling),
+        Rule::Need { above, least, .. } => is_figure(above) && is_figure(least),
+        Rule::Spread { most, .. } | Rule::Step { most, .. } | Rule::Cap { most, .. } => {
+            is_figure(most)
+        }
     }
 }
 
@@ -49,16 +42,17 @@ fn is_rule(rule: &Rule) -> bool
 pub(crate) fn in_range(record: &Record<'_>) -> bool
     ensures { result ≡ figures_ok (meant «record».now) }
 {
-    match record {
+    match *record {
         Record::LinearRail {
             lowest,
             step,
             count,
-        } => is_linear(*lowest, *step, Code::from(*count)),
+        } => is_linear(lowest, step, Code::from(count)),
         Record::TableRail { levels } => are_levels(levels),
-        Record::DividerClock { parent, count } => is_divider(*parent, Code::from(*count)),
-        Record::TreeClock { divisors, parents } => is_divisors(Code::from(*divisors))
-            && are_levels(parents),
-        Record::Rule(rule) => is_rule(rule),
+        Record::DividerClock { parent, count } => is_divider(parent, Code::from(count)),
+        Record::TreeClock { divisors, parents } => {
+            is_divisors(Code::from(divisors)) && are_levels(parents)
+        }
+        Record::Rule(rule) => is_rule(&rule),
     }
 }

@@ -4,11 +4,11 @@ ghost use Rattle.table.specs.Kinds.{body_ok};
 ghost use Rattle.table.specs.Meaning.{meant, Own};
 ghost use Rattle.table.specs.Records.{decode as held};
 
-use super::bytes::{after, word};
+use super::bytes::word;
 use super::kind::RecordKind;
 use super::rule::Rule;
 
-#[derive(Clone, Copy)]
+#[derive(Clone, Copy, Debug, PartialEq, Eq)]
 pub enum Record<'a> {
     LinearRail { lowest: u32, step: u32, count: u8 },
     // The listed levels, four bytes each: a part of the table's own bytes.
@@ -20,7 +20,7 @@ pub enum Record<'a> {
 }
 
 // A record with its number from 0 and its offset in the table.
-#[derive(Clone, Copy)]
+#[derive(Clone, Copy, Debug, PartialEq, Eq)]
 pub struct Placed<'a> {
     pub record: Record<'a>,
     pub number: usize,
@@ -46,7 +46,7 @@ pub(crate) fn decode<'a>(kind: RecordKind, body: &'a [u8]) -> Record<'a>
         },
         RecordKind::TreeClock => Record::TreeClock {
             divisors: body[0],
-            parents: after(body, 1),
+            parents: &body[1..],
         },
         RecordKind::Window => Record::Rule(Rule::Window {
             rail: body[0],

@@ -1,5 +1,5 @@
 // A rule of a board. Rails and clocks go by their part numbers, levels are in µV and rates in kHz.
-#[derive(Clone, Copy)]
+#[derive(Clone, Copy, Debug, PartialEq, Eq)]
 pub enum Rule {
     // The rail stands from floor to ceiling.
     Window {

@@ -2,7 +2,6 @@
 ghost use Rattle.std.specs.Prelude.{◌≡◌};
 ghost use Rattle.table.specs.Meaning.{Next};
 
-use super::super::bytes::after;
 use super::super::first::first;
 use super::super::record::Placed;
 use super::Reader;
@@ -14,21 +13,18 @@ impl<'a> Reader<'a> {
         ensures bytes { self.new.table.now ≡ self.old.table.now }
         ensures read { Next self.old.table.now self.old.number self.old.at result self.new.number self.new.at }
     {
-        match first(after(self.table, self.at)) {
-            Err(refusal) => Err(Fault::table(refusal, self.number)),
-            Ok(found) => match found {
-                None => Ok(None),
-                Some((record, size)) => {
-                    let placed = Placed {
-                        record,
-                        number: self.number,
-                        offset: self.at,
-                    };
-                    self.at += size;
-                    self.number += 1;
-                    Ok(Some(placed))
-                }
-            },
-        }
+        let rest = &self.table[self.at..];
+        let found = first(rest).map_err(|refusal| Fault::table(refusal, self.number))?;
+        let Some((record, size)) = found else {
+            return Ok(None);
+        };
+        let placed = Placed {
+            record,
+            number: self.number,
+            offset: self.at,
+        };
+        self.at += size;
+        self.number += 1;
+        Ok(Some(placed))
     }
 }

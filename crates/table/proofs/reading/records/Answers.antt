@@ -1,7 +1,7 @@
 use Rattle.std.proofs.Common.{vec_items}
 use Rattle.std.proofs.lemmas.Result.{err_from_is_err_and}
 use Rattle.table.proofs.Exact.{exactly, only_memory}
-use Rattle.table.proofs.Going.{going_none, going_more, going_all, going_fault}
+use Rattle.table.proofs.Going.{going_more, going_all, going_fault}
 use Rattle.table.proofs.LittleEndian.{bytes_from}
 use Rattle.table.proofs.OnTheWay.{Here, here, here_less}
 use Rattle.table.proofs.reading.records.Goals as goal
@@ -13,10 +13,6 @@ at_cursor c =
     here c.args.table.now c.records.reader.table.now c.in_ok-one.field-0 c.in-Some.one
     c.records.reader.number c.records.reader.at c.next.new.self.number c.next.new.self.at
     (bytes_from c.args.table.now c.type_inv.table) c.records.invariant.way.same c.in_ok-one.ensures.read c.in-Some.is
-
-pub records-init : goal.records-init
-records-init c =
-    going_none c.args.table.now _ _ _ _ c.new-reader.ensures.bytes c.new-all.ensures.items c.new-reader.ensures.number c.new-reader.ensures.cursor
 
 pub returns-in_err-one : goal.returns-in_err-one
 returns-in_err-one c =
