@@ -1,5 +1,5 @@
 -- The test of a rule's names tells that it names what is there, and the other way round.
-use Rattle.std.proofs.Common.{◌≡◌, ℕ, true, not, ◌&&◌, Option, Some, None, eqb, refl, ap, arith}
+use Rattle.std.proofs.Common.{◌≡◌, ℕ, true, not, ◌&&◌, Option, Some, None, eqb, refl, ap}
 use Rattle.std.proofs.lemmas.Bool.{and_parts, and_from, eqb-false, ne_eqb, not-true, not_from_false, false≢true}
 use Rattle.device.specs.declared.kind.Kind.{Kind}
 use Rattle.device.specs.declared.kind.Kind.TheVariants.{Rail, Clock}
