@@ -55,7 +55,7 @@ fn refused(heap: Global, fault: Fault) -> Result<Vec<Line>, Fault>
     ensures line { MatchResult result (λ v. v.items ≡ Refused fault.refusal ∷ []) (λ f. f ≡ memory_fault) }
     ensures table { fault ≡ memory_fault → is_err result ≡ true }
 {
-    if let Refusal::NoMemory = fault.refusal {
+    if fault.refusal == Refusal::NoMemory {
         return Err(Fault::memory());
     }
     let mut lines = Vec::new(heap);
