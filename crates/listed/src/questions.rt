@@ -14,12 +14,7 @@ impl Listed {
     fn at(&self, part: u8) -> Option<&Part>
         ensures { Shows (bank_from self.now.parts.items) part result }
     {
-        let place = usize::from(part);
-        if place < self.parts.len() {
-            Some(&self.parts[place])
-        } else {
-            None
-        }
+        self.parts.get(usize::from(part))
     }
 }
 
@@ -40,38 +35,23 @@ impl Bank for Listed {
     }
 
     fn count(&self, part: u8) -> Code {
-        match self.at(part) {
-            Some(device) => device.count(),
-            None => 0,
-        }
+        self.at(part).map_or(0, |device| device.count())
     }
 
     fn level(&self, part: u8, code: Code) -> u32 {
-        match self.at(part) {
-            Some(device) => device.level(code),
-            None => 0,
-        }
+        self.at(part).map_or(0, |device| device.level(code))
     }
 
     fn linked(&self, part: u8, from: Code, to: Code) -> bool {
-        match self.at(part) {
-            Some(device) => device.linked(from, to),
-            None => false,
-        }
+        self.at(part).map_or(false, |device| device.linked(from, to))
     }
 
     fn code(&self, part: u8) -> Code {
-        match self.at(part) {
-            Some(device) => device.code(),
-            None => 0,
-        }
+        self.at(part).map_or(0, |device| device.code())
     }
 
     fn tally(&self, part: u8) -> u64 {
-        match self.at(part) {
-            Some(device) => device.tally(),
-            None => 0,
-        }
+        self.at(part).map_or(0, |device| device.tally())
     }
 
     fn write(&mut self, part: u8, code: Code) -> Answer
