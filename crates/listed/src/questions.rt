@@ -58,11 +58,9 @@ impl Bank for Listed {
         ensures written { Written (bank_from self.old.parts.items) part code result (bank_from self.new.parts.items) }
         ensures willing { Willing (bank_from self.old.parts.items) part code result }
     {
-        let place = usize::from(part);
-        if place < self.parts.len() {
-            self.parts[place].write(code)
-        } else {
-            Answer::NoSuchWrite
+        match self.parts.get_mut(usize::from(part)) {
+            Some(device) => device.write(code),
+            None => Answer::NoSuchWrite,
         }
     }
 }
