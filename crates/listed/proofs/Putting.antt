@@ -11,8 +11,8 @@ use Rattle.bank.specs.Banks.{BankModel, Sound}
 use Rattle.bank.specs.States.{weight, number, digit, counts, spans}
 use Rattle.bank.proofs.Digits.{number_same, number_digit, digit_below, rest_more}
 use Rattle.listed.specs.Listing.{bank_from, Put, SetTo}
-use Rattle.listed.specs.Lookups.{at_set_other}
-use Rattle.listed.specs.Written.{kinds_stay, device_before, device_after, nothing_there}
+use Rattle.listed.specs.Written.{at_past}
+use Rattle.listed.proofs.Changed.{device_other, kinds_stay, device_before, device_after}
 
 -- the first k parts are put on their codes of state s, the others are as they were, and this much of s is left
 pub record Putting (ps : List Part) (s k : ℕ) (qs : List Part) (rest : ℕ) : Type 0 where
@@ -48,9 +48,9 @@ putting_more ps s k qs rest c x y h is count kept put was =
       kind = λ q. kinds_stay qs k x y h is kept q ∙ was.kind q;
       done = λ q l. elim (cases_eq q k) [
         | inl e ↦ subst (λ r. (bank_from (set qs k y)).device r ≡ set_on ((bank_from ps).device r) (digit count_of s r)) (sym e) here
-        | inr ne ↦ at_set_other part_model no_device qs k q y ne ∙ was.done q (omega (arith, ne))
+        | inr ne ↦ device_other qs k q y ne ∙ was.done q (omega (arith, ne))
       ];
-      ahead = λ q l. at_set_other part_model no_device qs k q y (λ e. omega arith) ∙ was.ahead q (omega arith);
+      ahead = λ q l. device_other qs k q y (λ e. omega arith) ∙ was.ahead q (omega arith);
     }
 
 -- an absent part is not changed
@@ -67,7 +67,7 @@ putting_all ps s k qs rest h was = record {
   device = λ q. elim (cases_lt q k) [
     | inl l ↦ was.done q l
     | inr l ↦
-        let none = nothing_there ps q (omega arith) in
+        let none = at_past part_model no_device ps q (omega arith) in
         was.ahead q l ∙ none ∙ sym (set_nothing (digit (counts (bank_from ps)) s q)) ∙ ap (λ (d : Device). set_on d (digit (counts (bank_from ps)) s q)) (sym none)
   ];
 }

@@ -2,7 +2,7 @@
 
 #![tactic(auto)]
 
-ghost use Rattle.std.specs.Prelude.{◌≤◌, vec_len};
+ghost use Rattle.std.specs.Prelude.{◌≤◌, length};
 
 use listing::Part;
 
@@ -13,5 +13,5 @@ pub mod set;
 #[derive(Drop)]
 pub struct Listed {
     parts: Vec<Part>,
-    ghost few: { vec_len parts ≤ 32 },
+    ghost few: { length parts.items ≤ 32 },
 }

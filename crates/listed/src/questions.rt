@@ -1,7 +1,6 @@
 // The listed bank's questions and writes.
 ghost use Rattle.bank.specs.Banks.{Written, Willing};
 ghost use Rattle.listed.specs.Listing.{bank_from, Shows};
-ghost use Rattle.std.proofs.Common.{arith};
 ghost use Rattle.listed.specs.Written.{listed_sound};
 
 use super::Listed;
@@ -21,7 +20,7 @@ impl Listed {
 impl Bank for Listed {
     ghost model = { λ b. bank_from b.parts.items };
 
-    ghost sound = { λ x. listed_sound x.parts.items (omega (arith, x.few, x.parts.ok.0)) };
+    ghost sound = { λ x. listed_sound x.parts.items x.few };
 
     fn parts(&self) -> u8 {
         self.parts.len() as u8

@@ -2,7 +2,7 @@ use Rattle.std.proofs.Common.{vec_items, Vec, ap, ◌∙◌}
 use Rattle.std.specs.declared.alloc.Global.{Global}
 use Rattle.listing.specs.declared.part.Part.{Part}
 use Rattle.listed.specs.Listing.{bank_from}
-use Rattle.listed.specs.Lookups.{fresh_bank}
+use Rattle.listed.proofs.Fresh.{fresh_bank}
 use Rattle.listed.proofs.Listed.from_listing.Goals as goal
 
 pub returns : goal.returns

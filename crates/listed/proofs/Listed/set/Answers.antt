@@ -8,4 +8,4 @@ pub returns : goal.returns
 returns c =
     let b = c.args.self.now in
     let ps = vec_items b.parts in
-    set_to (bank_from ps) (bank_from (vec_items c.put.new.self.parts)) c.args.state (listed_sound ps (omega (arith, b.few, b.parts.ok.0))) (omega arith) c.put.ensures
+    set_to (bank_from ps) (bank_from (vec_items c.put.new.self.parts)) c.args.state (listed_sound ps b.few) (omega arith) c.put.ensures

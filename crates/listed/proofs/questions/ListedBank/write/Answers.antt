@@ -1,7 +1,7 @@
 use Rattle.std.proofs.Common.{set, vec_items, subst}
 use Rattle.bank.specs.Banks.{Written}
 use Rattle.listed.specs.Listing.{bank_from}
-use Rattle.listed.specs.Written.{part_written}
+use Rattle.listed.proofs.Changed.{part_written}
 use Rattle.listed.proofs.questions.ListedBank.write.Goals as goal
 
 pub returns-in-Some-clause-written : goal.returns-in-Some-clause-written
