@@ -22,15 +22,6 @@ pub record Putting (ps : List Part) (s k : ℕ) (qs : List Part) (rest : ℕ) : 
   pub done : (q : ℕ) → q < k → (bank_from qs).device q ≡ set_on ((bank_from ps).device q) (digit (counts (bank_from ps)) s q)
   pub ahead : (q : ℕ) → k ≤ q → (bank_from qs).device q ≡ (bank_from ps).device q
 
-pub putting_none : (ps : List Part) (s : ℕ) → Putting ps s 0 ps s
-putting_none ps s = record {
-  long = refl;
-  left = omega arith;
-  kind = λ _. refl;
-  done = λ q h. absurd (omega arith);
-  ahead = λ _ _. refl;
-}
-
 -- one part more: x is the part before, y after
 pub putting_more : (ps : List Part) (s k : ℕ) (qs : List Part) (rest c : ℕ) (x y : Part) → k < length qs → x ≡ get_or qs k x
     → c ≡ (part_model x).count → kind_of (part_figures y) ≡ kind_of (part_figures x) → part_model y ≡ set_on (part_model x) (rest % c)
@@ -52,25 +43,6 @@ putting_more ps s k qs rest c x y h is count kept put was =
       ];
       ahead = λ q l. device_other qs k q y (λ e. omega arith) ∙ was.ahead q (omega arith);
     }
-
--- an absent part is not changed
-set_nothing : (c : ℕ) → set_on no_device c ≡ no_device
-set_nothing c =
-    ap (λ (code : ℕ). record { count = 0; level = λ _. 0; linked = λ _ _. false; code = code; tally = 0 })
-    (cond-false (ltb c 0) c 0 (le-ltb c 0 (omega arith)))
-
--- all of them
-pub putting_all : (ps : List Part) (s k : ℕ) (qs : List Part) (rest : ℕ) → length ps ≤ k → Putting ps s k qs rest → Put (bank_from ps) s (bank_from qs)
-putting_all ps s k qs rest h was = record {
-  parts = was.long;
-  kind = was.kind;
-  device = λ q. elim (cases_lt q k) [
-    | inl l ↦ was.done q l
-    | inr l ↦
-        let none = at_past part_model no_device ps q (omega arith) in
-        was.ahead q l ∙ none ∙ sym (set_nothing (digit (counts (bank_from ps)) s q)) ∙ ap (λ (d : Device). set_on d (digit (counts (bank_from ps)) s q)) (sym none)
-  ];
-}
 
 -- a bank with states has the product of its counts
 spans_product : (m : BankModel) (s : ℕ) → s < spans m → spans m ≡ weight (counts m) m.parts

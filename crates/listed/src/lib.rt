@@ -10,6 +10,7 @@ pub mod questions;
 pub mod read;
 pub mod set;
 
+// No model by the list of its parts: a refused `set` leaves the whole `Vec` as it is, which that list does not tell.
 #[derive(Drop)]
 pub struct Listed {
     parts: Vec<Part>,
