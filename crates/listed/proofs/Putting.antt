@@ -1,9 +1,9 @@
 -- A listed bank put on a state, part by part.
-use Rattle.std.proofs.Common.{◌≡◌, ℕ, ◌+◌, ◌/◌, ◌%◌, ◌<◌, ◌≤◌, Bool, false, ◌&&◌, ltb, leb, List, length, get_or, set, sym, refl, ap, ◌∙◌, subst, ap₂, inl, inr, add-one, arith}
+use Rattle.std.proofs.Common.{◌≡◌, ℕ, ◌+◌, ◌/◌, ◌%◌, ◌<◌, ◌≤◌, Bool, ◌&&◌, ltb, leb, List, length, get_or, set, sym, ap, ◌∙◌, subst, ap₂, inl, inr, add-one, arith}
 use mathlib.Core.Path.{fun_ext}
 use Rattle.std.proofs.lemmas.List.{length-set}
-use Rattle.std.proofs.lemmas.Bool.{cases_eq, cases_lt, cases_Bool, cond-true, cond-false, lt-ltb, le-ltb}
-use Rattle.device.specs.Device.{Device, no_device, set_on}
+use Rattle.std.proofs.lemmas.Bool.{cases_eq, cases_Bool, cond-true, cond-false, lt-ltb}
+use Rattle.device.specs.Device.{Device, set_on}
 use Rattle.device.specs.Figures.{kind_of}
 use Rattle.listing.specs.Parts.{part_figures, part_model}
 use Rattle.listing.specs.declared.part.Part.{Part}
@@ -11,7 +11,6 @@ use Rattle.bank.specs.Banks.{BankModel, Sound}
 use Rattle.bank.specs.States.{weight, number, digit, counts, spans}
 use Rattle.bank.proofs.Digits.{number_same, number_digit, digit_below, rest_more}
 use Rattle.listed.specs.Listing.{bank_from, Put, SetTo}
-use Rattle.listed.specs.Written.{at_past}
 use Rattle.listed.proofs.Changed.{device_other, kinds_stay, device_before, device_after}
 
 -- the first k parts are put on their codes of state s, the others are as they were, and this much of s is left
