@@ -42,8 +42,7 @@ impl Bank for Listed {
     }
 
     fn linked(&self, part: u8, from: Code, to: Code) -> bool {
-        self.at(part)
-            .map_or(false, |device| device.linked(from, to))
+        self.at(part).is_some_and(|device| device.linked(from, to))
     }
 
     fn code(&self, part: u8) -> Code {
