@@ -1,12 +1,9 @@
 -- The faulting bank: the bank below it with tallies of its own.
 --   with_tally   a device with another tally
 --   faulty       what the faulting bank shows
---   left_of      the outcomes that are left
-use Rattle.std.specs.Prelude.{ℕ, cond, List, drop, vec_items, nat_lt, slice_index}
+use Rattle.std.specs.Prelude.{ℕ, cond, List, nat_lt, slice_index}
 use Rattle.device.specs.Device.{Device}
 use Rattle.bank.specs.Banks.{BankModel}
-use Rattle.faults.specs.declared.outcome.Outcome.{Outcome}
-use Rattle.faults.specs.declared.script.Script.{Script}
 
 -- a device with another tally
 abbrev pub with_tally : Device → ℕ → Device
@@ -19,7 +16,3 @@ faulty m tallies = record {
   kind = m.kind;
   device = λ p. with_tally (m.device p) (cond (nat_lt p m.parts) (slice_index tallies p) 0);
 }
-
--- the outcomes that are left
-abbrev pub left_of : Script → List Outcome
-left_of s = drop s.used (vec_items s.outcomes)

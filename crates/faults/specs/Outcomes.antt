@@ -1,9 +1,13 @@
 -- The outcomes that a bench can give to writes.
 --   outcome_number   the number of an outcome
+--   Numbered         the outcome of a number, or the fault of a number that no outcome has
 --   Below            what an outcome asks of the bank below, and what is answered
 --   next             the outcome of the next write
 --   Used             what one write does with the outcomes and with the bank below
-use Rattle.std.specs.Prelude.{◌≡◌, ℕ, true, false, List, [], ◌∷◌, drop}
+use Rattle.std.specs.Prelude.{◌≡◌, ℕ, ◌<◌, true, false, List, [], ◌∷◌, drop, Result, MatchResult}
+use Rattle.answer.specs.Faults.{table_fault}
+use Rattle.answer.specs.declared.fault.Fault.{Fault}
+use Rattle.answer.specs.declared.refusal.Refusal.TheVariants.{OutOfRange}
 use Rattle.device.specs.declared.answers.Answer.{Answer}
 use Rattle.device.specs.declared.answers.Answer.TheVariants.{Done, Balked, Unsure, NoSuchWrite}
 use Rattle.bank.specs.Banks.{BankModel, Written}
@@ -16,6 +20,10 @@ outcome_number Pass = 0
 outcome_number Balk = 1
 outcome_number Lose = 2
 outcome_number Doubt = 3
+
+-- the outcome that has this number, or 4 for a number above 3
+abbrev pub Numbered : ℕ → Result Outcome Fault → Type 0
+Numbered number r = MatchResult r (λ o. outcome_number o ≡ number) (λ f. (3 < number) × (f ≡ table_fault OutOfRange 0))
 
 -- 'done' told as 'unsure'
 abbrev pub doubted : Answer → Answer

@@ -4,7 +4,6 @@
 
 pub mod outcome;
 pub mod over;
-pub mod script;
 pub mod tallies;
 
 pub use outcome::Outcome;

@@ -3,22 +3,23 @@ ghost use Rattle.std.specs.Prelude.{◌≡◌, ◌<◌, replicate, vec_len, Matc
 ghost use Rattle.answer.specs.Faults.{table_fault};
 ghost use Rattle.answer.specs.declared.refusal.Refusal.TheVariants.{OutOfRange};
 ghost use Rattle.bank.specs.Banks.{Written};
-ghost use Rattle.faults.specs.Faulty.{faulty, left_of};
+ghost use Rattle.faults.specs.Faulty.{faulty};
 ghost use Rattle.faults.specs.Outcomes.{Used, doubted};
 ghost use Rattle.faults.specs.Soundness.{faulty_sound};
 
 use super::MOST_OUTCOMES;
 use super::outcome::Outcome;
-use super::script::Script;
 use super::tallies::Tallies;
 use answer::{Fault, Refusal};
 use bank::Bank;
 use device::{Answer, Code, Kind};
+use std::collections::VecDeque;
 
 #[derive(Drop)]
 pub struct Faulting<B: Bank> {
     bank: B,
-    script: Script,
+    // Those of the next writes, in order.
+    outcomes: VecDeque<Outcome>,
     tallies: Tallies,
 }
 
@@ -28,23 +29,21 @@ fn doubt(answer: Answer) -> Answer
 {
     match answer {
         Answer::Done => Answer::Unsure,
-        Answer::Balked => Answer::Balked,
-        Answer::Unsure => Answer::Unsure,
-        Answer::NoSuchWrite => Answer::NoSuchWrite,
+        told => told,
     }
 }
 
 impl<B: Bank + Drop> Faulting<B> {
     // A bank whose next writes have these outcomes, with no write counted, or 4 for more than 32 outcomes.
     pub fn new(bank: B, outcomes: Vec<Outcome>) -> Result<Faulting<B>, Fault>
-        ensures { MatchResult result (λ f. (f.bank ≡ bank) × (left_of f.script ≡ outcomes.items) × (f.tallies.counts ≡ replicate 32 0)) (λ f. (32 < vec_len outcomes) × (f ≡ table_fault OutOfRange 0)) }
+        ensures { MatchResult result (λ f. (f.bank ≡ bank) × (f.outcomes.items ≡ outcomes.items) × (f.tallies.counts ≡ replicate 32 0)) (λ f. (32 < vec_len outcomes) × (f ≡ table_fault OutOfRange 0)) }
     {
         if outcomes.len() > MOST_OUTCOMES {
             return Err(Fault::table(Refusal::OutOfRange, 0));
         }
         Ok(Faulting {
             bank,
-            script: Script::new(outcomes),
+            outcomes: VecDeque::from(outcomes),
             tallies: Tallies::new(),
         })
     }
@@ -59,7 +58,7 @@ impl<B: Bank> Bank for Faulting<B> {
         self.bank.parts()
     }
 
-    fn kind(&self, part: u8) -> Kind {
+    fn kind(&self, part: u8) -> Option<Kind> {
         self.bank.kind(part)
     }
 
@@ -90,13 +89,13 @@ impl<B: Bank> Bank for Faulting<B> {
     // Where there is such a write, it is counted, and the next outcome says what is asked of the bank below.
     fn write(&mut self, part: u8, code: Code) -> Answer
         ensures written { Written (faulty (B.Bank.model self.old.bank) self.old.tallies.counts) part code result (faulty (B.Bank.model self.new.bank) self.new.tallies.counts) }
-        ensures used { Used (B.Bank.model self.old.bank) (left_of self.old.script) part code result (B.Bank.model self.new.bank) (left_of self.new.script) }
+        ensures used { Used (B.Bank.model self.old.bank) self.old.outcomes.items part code result (B.Bank.model self.new.bank) self.new.outcomes.items }
     {
         if !self.bank.linked(part, self.bank.code(part), code) {
             return Answer::NoSuchWrite;
         }
         self.tallies.count(part);
-        match self.script.take_next() {
+        match self.outcomes.pop_front().unwrap_or(Outcome::Pass) {
             Outcome::Pass => self.bank.write(part, code),
             Outcome::Balk => Answer::Balked,
             Outcome::Lose => Answer::Unsure,

@@ -1,11 +1,10 @@
 // Tallies of writes, one for each part that a bank can show.
-ghost use Rattle.std.specs.Prelude.{◌≡◌, ℕ, ◌^◌, ◌<◌, length, replicate, slice_index, slice_set};
+ghost use Rattle.std.specs.Prelude.{◌≡◌, ℕ, ◌^◌, ◌<◌, replicate, slice_index, slice_set};
 ghost use Rattle.device.specs.Device.{counted_on};
 
 #[derive(Drop)]
 pub struct Tallies {
     counts: [u64; 32],
-    ghost room: { length counts ≡ 32 },
     ghost counted: { (p : ℕ) → slice_index counts p < 2 ^ 64 },
 }
 
@@ -19,19 +18,18 @@ impl Tallies {
 
     // How many writes to a part were counted.
     pub(crate) fn of(&self, part: u8) -> u64
-        requires { part < 32 }
         ensures { result ≡ slice_index self.now.counts part }
     {
-        self.counts[usize::from(part)]
+        self.counts.get(usize::from(part)).copied().unwrap_or(0)
     }
 
     // One more write to a part, and no more at the top of 64 bits.
     pub(crate) fn count(&mut self, part: u8)
-        requires { part < 32 }
         ensures { self.new.counts ≡ slice_set self.old.counts part (counted_on (slice_index self.old.counts part)) }
     {
         let place = usize::from(part);
-        let tally = self.counts[place];
-        self.counts[place] = tally.saturating_add(1);
+        if place < self.counts.len() {
+            self.counts[place] = self.counts[place].saturating_add(1);
+        }
     }
 }

@@ -1,9 +1,9 @@
 -- A listed bank put on a state, part by part.
-use Rattle.std.proofs.Common.{◌≡◌, ℕ, ◌+◌, ◌/◌, ◌%◌, ◌<◌, ◌≤◌, Bool, false, ◌&&◌, ltb, leb, List, length, get_or, set, sym, refl, ap, ◌∙◌, subst, ap₂, inl, inr, add-one, arith}
+use Rattle.std.proofs.Common.{◌≡◌, ℕ, ◌+◌, ◌/◌, ◌%◌, ◌<◌, ◌≤◌, Bool, ◌&&◌, ltb, leb, List, length, get_or, set, sym, ap, ◌∙◌, subst, ap₂, inl, inr, add-one, arith}
 use mathlib.Core.Path.{fun_ext}
 use Rattle.std.proofs.lemmas.List.{length-set}
-use Rattle.std.proofs.lemmas.Bool.{cases_eq, cases_lt, cases_Bool, cond-true, cond-false, lt-ltb, le-ltb}
-use Rattle.device.specs.Device.{Device, no_device, set_on}
+use Rattle.std.proofs.lemmas.Bool.{cases_eq, cases_Bool, cond-true, cond-false, lt-ltb}
+use Rattle.device.specs.Device.{Device, set_on}
 use Rattle.device.specs.Figures.{kind_of}
 use Rattle.listing.specs.Parts.{part_figures, part_model}
 use Rattle.listing.specs.declared.part.Part.{Part}
@@ -11,8 +11,7 @@ use Rattle.bank.specs.Banks.{BankModel, Sound}
 use Rattle.bank.specs.States.{weight, number, digit, counts, spans}
 use Rattle.bank.proofs.Digits.{number_same, number_digit, digit_below, rest_more}
 use Rattle.listed.specs.Listing.{bank_from, Put, SetTo}
-use Rattle.listed.specs.Lookups.{at_set_other}
-use Rattle.listed.specs.Written.{kinds_stay, device_before, device_after, nothing_there}
+use Rattle.listed.proofs.Changed.{device_other, kinds_stay, device_before, device_after}
 
 -- the first k parts are put on their codes of state s, the others are as they were, and this much of s is left
 pub record Putting (ps : List Part) (s k : ℕ) (qs : List Part) (rest : ℕ) : Type 0 where
@@ -21,15 +20,6 @@ pub record Putting (ps : List Part) (s k : ℕ) (qs : List Part) (rest : ℕ) : 
   pub kind : (q : ℕ) → (bank_from qs).kind q ≡ (bank_from ps).kind q
   pub done : (q : ℕ) → q < k → (bank_from qs).device q ≡ set_on ((bank_from ps).device q) (digit (counts (bank_from ps)) s q)
   pub ahead : (q : ℕ) → k ≤ q → (bank_from qs).device q ≡ (bank_from ps).device q
-
-pub putting_none : (ps : List Part) (s : ℕ) → Putting ps s 0 ps s
-putting_none ps s = record {
-  long = refl;
-  left = omega arith;
-  kind = λ _. refl;
-  done = λ q h. absurd (omega arith);
-  ahead = λ _ _. refl;
-}
 
 -- one part more: x is the part before, y after
 pub putting_more : (ps : List Part) (s k : ℕ) (qs : List Part) (rest c : ℕ) (x y : Part) → k < length qs → x ≡ get_or qs k x
@@ -48,29 +38,10 @@ putting_more ps s k qs rest c x y h is count kept put was =
       kind = λ q. kinds_stay qs k x y h is kept q ∙ was.kind q;
       done = λ q l. elim (cases_eq q k) [
         | inl e ↦ subst (λ r. (bank_from (set qs k y)).device r ≡ set_on ((bank_from ps).device r) (digit count_of s r)) (sym e) here
-        | inr ne ↦ at_set_other part_model no_device qs k q y ne ∙ was.done q (omega (arith, ne))
+        | inr ne ↦ device_other qs k q y ne ∙ was.done q (omega (arith, ne))
       ];
-      ahead = λ q l. at_set_other part_model no_device qs k q y (λ e. omega arith) ∙ was.ahead q (omega arith);
+      ahead = λ q l. device_other qs k q y (λ e. omega arith) ∙ was.ahead q (omega arith);
     }
-
--- an absent part is not changed
-set_nothing : (c : ℕ) → set_on no_device c ≡ no_device
-set_nothing c =
-    ap (λ (code : ℕ). record { count = 0; level = λ _. 0; linked = λ _ _. false; code = code; tally = 0 })
-    (cond-false (ltb c 0) c 0 (le-ltb c 0 (omega arith)))
-
--- all of them
-pub putting_all : (ps : List Part) (s k : ℕ) (qs : List Part) (rest : ℕ) → length ps ≤ k → Putting ps s k qs rest → Put (bank_from ps) s (bank_from qs)
-putting_all ps s k qs rest h was = record {
-  parts = was.long;
-  kind = was.kind;
-  device = λ q. elim (cases_lt q k) [
-    | inl l ↦ was.done q l
-    | inr l ↦
-        let none = nothing_there ps q (omega arith) in
-        was.ahead q l ∙ none ∙ sym (set_nothing (digit (counts (bank_from ps)) s q)) ∙ ap (λ (d : Device). set_on d (digit (counts (bank_from ps)) s q)) (sym none)
-  ];
-}
 
 -- a bank with states has the product of its counts
 spans_product : (m : BankModel) (s : ℕ) → s < spans m → spans m ≡ weight (counts m) m.parts

@@ -1,4 +1,3 @@
 pub mod Figured
 pub mod Listing
-pub mod Written
-pub mod Lookups
+pub mod Soundness

@@ -8,7 +8,6 @@ use Rattle.std.specs.Prelude.{◌≡◌, ℕ, ◌<◌, List, length, Some, None,
 use Rattle.std.specs.Borrow.{Bor}
 use Rattle.device.specs.Device.{no_device, set_on}
 use Rattle.device.specs.Figures.{kind_of}
-use Rattle.device.specs.declared.kind.Kind.TheVariants.{Absent}
 use Rattle.table.specs.Reading.{accepted}
 use Rattle.table.specs.declared.rule.Rule.{Rule}
 use Rattle.listing.specs.Lists.{Lists, listing}
@@ -22,14 +21,14 @@ use Rattle.listed.specs.Figured.{at_or, bank_of}
 abbrev pub bank_from : List Part → BankModel
 bank_from ps = record {
   parts = length ps;
-  kind = at_or (λ x. kind_of (part_figures x)) Absent ps;
+  kind = at_or (λ x. Some (kind_of (part_figures x))) None ps;
   device = at_or part_model no_device ps;
 }
 
 -- what is told of part p: none where it is absent
 abbrev pub Shows : BankModel → ℕ → Option (Bor Part) → Type 0
-Shows m p None = (m.kind p ≡ Absent) × (m.device p ≡ no_device)
-Shows m p (Some x) = (m.kind p ≡ kind_of (part_figures x.now)) × (m.device p ≡ part_model x.now)
+Shows m p None = (m.kind p ≡ None) × (m.device p ≡ no_device)
+Shows m p (Some x) = (m.kind p ≡ Some (kind_of (part_figures x.now))) × (m.device p ≡ part_model x.now)
 
 -- each part of bank m put on its code of state s makes bank n: the tallies stay
 pub record Put (m : BankModel) (s : ℕ) (n : BankModel) : Type 0 where

@@ -2,7 +2,7 @@
 
 #![tactic(auto)]
 
-ghost use Rattle.std.specs.Prelude.{◌≤◌, vec_len};
+ghost use Rattle.std.specs.Prelude.{◌≤◌, length};
 
 use listing::Part;
 
@@ -10,8 +10,9 @@ pub mod questions;
 pub mod read;
 pub mod set;
 
+// No model by the list of its parts: a refused `set` leaves the whole `Vec` as it is, which that list does not tell.
 #[derive(Drop)]
 pub struct Listed {
     parts: Vec<Part>,
-    ghost few: { vec_len parts ≤ 32 },
+    ghost few: { length parts.items ≤ 32 },
 }

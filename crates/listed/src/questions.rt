@@ -1,8 +1,7 @@
 // The listed bank's questions and writes.
 ghost use Rattle.bank.specs.Banks.{Written, Willing};
 ghost use Rattle.listed.specs.Listing.{bank_from, Shows};
-ghost use Rattle.std.proofs.Common.{arith};
-ghost use Rattle.listed.specs.Written.{listed_sound};
+ghost use Rattle.listed.specs.Soundness.{listed_sound};
 
 use super::Listed;
 use bank::Bank;
@@ -14,75 +13,50 @@ impl Listed {
     fn at(&self, part: u8) -> Option<&Part>
         ensures { Shows (bank_from self.now.parts.items) part result }
     {
-        let place = usize::from(part);
-        if place < self.parts.len() {
-            Some(&self.parts[place])
-        } else {
-            None
-        }
+        self.parts.get(usize::from(part))
     }
 }
 
 impl Bank for Listed {
     ghost model = { λ b. bank_from b.parts.items };
 
-    ghost sound = { λ x. listed_sound x.parts.items (omega (arith, x.few, x.parts.ok.0)) };
+    ghost sound = { λ x. listed_sound x.parts.items x.few };
 
     fn parts(&self) -> u8 {
         self.parts.len() as u8
     }
 
-    fn kind(&self, part: u8) -> Kind {
-        match self.at(part) {
-            Some(device) => device.kind(),
-            None => Kind::Absent,
-        }
+    fn kind(&self, part: u8) -> Option<Kind> {
+        self.at(part).map(|device| device.kind())
     }
 
     fn count(&self, part: u8) -> Code {
-        match self.at(part) {
-            Some(device) => device.count(),
-            None => 0,
-        }
+        self.at(part).map_or(0, |device| device.count())
     }
 
     fn level(&self, part: u8, code: Code) -> u32 {
-        match self.at(part) {
-            Some(device) => device.level(code),
-            None => 0,
-        }
+        self.at(part).map_or(0, |device| device.level(code))
     }
 
     fn linked(&self, part: u8, from: Code, to: Code) -> bool {
-        match self.at(part) {
-            Some(device) => device.linked(from, to),
-            None => false,
-        }
+        self.at(part).is_some_and(|device| device.linked(from, to))
     }
 
     fn code(&self, part: u8) -> Code {
-        match self.at(part) {
-            Some(device) => device.code(),
-            None => 0,
-        }
+        self.at(part).map_or(0, |device| device.code())
     }
 
     fn tally(&self, part: u8) -> u64 {
-        match self.at(part) {
-            Some(device) => device.tally(),
-            None => 0,
-        }
+        self.at(part).map_or(0, |device| device.tally())
     }
 
     fn write(&mut self, part: u8, code: Code) -> Answer
         ensures written { Written (bank_from self.old.parts.items) part code result (bank_from self.new.parts.items) }
         ensures willing { Willing (bank_from self.old.parts.items) part code result }
     {
-        let place = usize::from(part);
-        if place < self.parts.len() {
-            self.parts[place].write(code)
-        } else {
-            Answer::NoSuchWrite
+        match self.parts.get_mut(usize::from(part)) {
+            Some(device) => device.write(code),
+            None => Answer::NoSuchWrite,
         }
     }
 }

@@ -1,6 +1,6 @@
 // The listed bank, read from a table.
 ghost use Rattle.std.specs.Prelude.{◌≡◌, MatchResult};
-ghost use Rattle.listing.specs.Listed.{lists_of, AllFresh};
+ghost use Rattle.listing.specs.Listed.{lists_of};
 ghost use Rattle.listing.specs.Lists.{listing as listed_by};
 ghost use Rattle.table.specs.Answered.{SentBack};
 ghost use Rattle.listed.specs.Figured.{bank_of};
@@ -16,7 +16,7 @@ impl Listed {
     // The bank of what a table lists, and its rules.
     pub fn from_listing(listing: Listing) -> (Listed, Vec<Rule>)
         ensures bank { bank_from result.0.parts.items ≡ bank_from listing.parts.items }
-        ensures fresh { AllFresh listing → bank_from result.0.parts.items ≡ bank_of (lists_of listing).parts }
+        ensures fresh { bank_from result.0.parts.items ≡ bank_of (lists_of listing).parts }
         ensures rules { result.1 ≡ listing.rules }
     {
         let (parts, rules) = listing.into_lists();

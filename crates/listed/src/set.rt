@@ -16,12 +16,10 @@ impl Listed {
     fn spans(&self) -> usize
         ensures { result ≡ spanned (bank_from self.now.parts.items) }
     {
-        if self.parts.len() < 1 || self.parts.len() > MOST_PARTS {
-            return 0;
-        }
-        match product(self) {
-            Some(states) => states,
-            None => 0,
+        if (1..=MOST_PARTS).contains(&self.parts.len()) {
+            product(self).unwrap_or(0)
+        } else {
+            0
         }
     }
 
@@ -30,9 +28,9 @@ impl Listed {
         ensures { Put (bank_from self.old.parts.items) state (bank_from self.new.parts.items) }
     {
         let mut rest = state;
-        'parts: for place in 0..self.parts.len() {
-            let count = self.parts[place].count();
-            let _ = self.parts[place].set(rest % count);
+        for part in self.parts.iter_mut() {
+            let count = part.count();
+            let _ = part.set(rest % count);
             rest /= count;
         }
     }

@@ -16,11 +16,9 @@ const MOST_BYTES: u64 = 4_096;
 
 // How many pairs of a graph's states are joined, each counted from both ends.
 fn count_pairs<G: Graph>(graph: &G) -> usize {
-    let mut pairs = 0usize;
-    for state in 0..graph.states() {
-        pairs = pairs.saturating_add(count_joined(graph, state as State));
-    }
-    pairs
+    (0..graph.states())
+        .map(|state| count_joined(graph, state as State))
+        .fold(0, usize::saturating_add)
 }
 
 fn main(rt: HostRuntime) -> io::Result<()> {

@@ -1,7 +1,6 @@
-use Rattle.std.proofs.Common.{vec_items}
 use Rattle.listed.proofs.Putting.{Putting}
 use Rattle.listed.proofs.Listed.put.Given as goal
 
 -- the parts so far
-abbrev pub invariant-parts : goal.invariant-parts
-invariant-parts l = Putting (vec_items l.initial.self.parts) l.state l.place (vec_items l.self.parts) l.rest
+abbrev pub invariant-loop-part : goal.invariant-loop-part
+invariant-loop-part l = Putting l.initial.part-items l.state l.part-index l.part-items l.rest

@@ -1,4 +1,4 @@
-use Rattle.std.proofs.Common.{ℕ, zero, suc, ◌^◌, ◌<◌, get_or, replicate, refl, arith}
+use Rattle.std.proofs.Common.{ℕ, zero, suc, ◌^◌, ◌<◌, get_or, replicate, arith}
 use Rattle.faults.proofs.tallies.Tallies.new.Goals as goal
 
 -- nothing counted anywhere
@@ -8,4 +8,4 @@ none_counted (suc n) zero = omega arith
 none_counted (suc n) (suc p) = none_counted n p
 
 pub invariant_of-result : goal.invariant_of-result
-invariant_of-result c = record { room = refl; counted = none_counted 32 }
+invariant_of-result c = record { counted = none_counted 32 }
