@@ -8,11 +8,11 @@ use Rattle.table.specs.declared.rule.Rule.{Rule}
 use Rattle.bank.specs.Banks.{BankModel, Sound, Written}
 use Rattle.bank.specs.States.{number, counts}
 use Rattle.bank.proofs.Digits.{number_same, number_one}
-use Rattle.board.specs.Layouts.{Layout, layout_of, verdict_of, states_of, code_at, state_by, present}
+use Rattle.board.specs.Layouts.{Layout, layout_of, verdict_of, states_of, code_at, codes, state_by, present}
 use Rattle.board.specs.Lawfulness.{Lawful}
 use Rattle.board.specs.Joining.{JoinedBy}
 use Rattle.board.specs.Moves.{Lands, Moved, OneDigit}
-use Rattle.board.specs.Numbering.{numbered, decoded}
+use Rattle.board.specs.Numbering.{present_is, numbered, decoded}
 use Rattle.board.specs.Verdicts.{Flawless, flawless}
 
 module _ (m n : BankModel) (rules : List Rule) (p c : ℕ) (a : Answer) (w : Written m p c a n) where
@@ -36,36 +36,32 @@ module _ (m n : BankModel) (rules : List Rule) (p c : ℕ) (a : Answer) (w : Wri
   }
 
   -- the state after the write, by the old counts
-  after_is : present n rules ≡ state_by (verdict_of (layout_of m rules)) (number (counts m) (λ q. (n.device q).code) m.parts)
-  after_is = ap (λ (l : Layout). state_by (verdict_of l) (number l.count (λ q. (n.device q).code) l.parts)) same_layout
+  pub after_is : Flawless (layout_of m rules) → present n rules ≡ number (counts m) (codes n) m.parts
+  after_is fine =
+      ap (λ (l : Layout). state_by (verdict_of l) (number l.count (codes n) l.parts)) same_layout
+      ∙ ap (λ v. state_by v (number (counts m) (codes n) m.parts)) fine.verdict
 
   module _ (sound : Sound m) (t : ℕ) (j : JoinedBy (layout_of m rules) (present m rules) t p) (asked : code_at (layout_of m rules) t p ≡ c) where
     fine : Flawless (layout_of m rules)
     fine = let below = j.to_lawful.below in flawless (layout_of m rules) (omega arith)
 
-    before_is : present m rules ≡ number (counts m) (λ q. (m.device q).code) m.parts
-    before_is = ap (λ v. state_by v (number (counts m) (λ q. (m.device q).code) m.parts)) fine.verdict
-
-    after_number : present n rules ≡ number (counts m) (λ q. (n.device q).code) m.parts
-    after_number = after_is ∙ ap (λ v. state_by v (number (counts m) (λ q. (n.device q).code) m.parts)) fine.verdict
-
     -- the present code of a part is that of the present state
     code_is : (q : ℕ) → q < m.parts → code_at (layout_of m rules) (present m rules) q ≡ (m.device q).code
-    code_is = (numbered m sound rules (present m rules) fine before_is (let below = j.from_lawful.below in omega arith)).1
+    code_is = (numbered m sound rules (let below = j.from_lawful.below in omega arith)).1
 
     -- the write did not take
     stays : (n.device p).code ≡ (m.device p).code → present n rules ≡ present m rules
     stays e =
-        after_number
-        ∙ number_same (counts m) (λ q. (n.device q).code) (λ q. (m.device q).code) m.parts
+        after_is fine
+        ∙ number_same (counts m) (codes n) (codes m) m.parts
         (λ q _. each (λ d f. f.code ≡ d.code) (λ d f s. ap (λ (x : Device). x.code) s) e q)
-        ∙ sym before_is
+        ∙ sym (present_is m rules fine)
 
     -- the write took
     takes : (n.device p).code ≡ c → present n rules ≡ t
     takes e =
-        after_number
-        ∙ number_same (counts m) (λ q. (n.device q).code) (code_at (layout_of m rules) t) m.parts
+        after_is fine
+        ∙ number_same (counts m) (codes n) (code_at (layout_of m rules) t) m.parts
         (λ q h. elim (cases_eq q p) [
           | inl s ↦ subst (λ r. (n.device r).code ≡ code_at (layout_of m rules) t r) (sym s) (e ∙ sym asked)
           | inr ne ↦ ap (λ (x : Device). x.code) (w.others q ne) ∙ sym (code_is q h) ∙ j.alike q h ne
@@ -97,17 +93,13 @@ moved m n rules p c a sound w t j asked = lands m n rules p c a w sound t j aske
 -- whatever is written
 pub one_digit : (m n : BankModel) (rules : List Rule) (p c : ℕ) (a : Answer) → Sound m → Sound n → Written m p c a n → OneDigit m rules p n
 one_digit m n rules p c a sm sn w here some =
-    let l = layout_of m rules in
-    let same = same_layout m n rules p c a w in
-    let fine = flawless l some in
-    let fine_after = flawless (layout_of n rules) (omega (arith, ap states_of same)) in
-    let before : present m rules ≡ number (counts m) (λ q. (m.device q).code) m.parts = ap (λ v. state_by v (number (counts m) (λ q. (m.device q).code) m.parts)) fine.verdict in
-    let after : present n rules ≡ number (counts n) (λ q. (n.device q).code) n.parts = ap (λ v. state_by v (number (counts n) (λ q. (n.device q).code) n.parts)) fine_after.verdict in
-    let after_by : present n rules ≡ number (counts m) (λ q. (n.device q).code) m.parts =
-    after_is m n rules p c a w ∙ ap (λ v. state_by v (number (counts m) (λ q. (n.device q).code) m.parts)) fine.verdict in
-    let shift = number_one (counts m) (λ q. (m.device q).code) (λ q. (n.device q).code) m.parts p here (λ q _ ne. ap (λ (x : Device). x.code) (w.others q ne)) in (
+    let states = ap states_of (same_layout m n rules p c a w) in
+    let fine = flawless (layout_of m rules) some in
+    let before = present_is m rules fine in
+    let after = after_is m n rules p c a w fine in
+    let shift = number_one (counts m) (codes m) (codes n) m.parts p here (λ q _ ne. ap (λ (x : Device). x.code) (w.others q ne)) in (
       omega arith,
-      λ q h ne. (numbered n sn rules (present n rules) fine_after after (omega (arith, ap states_of same))).1 q (omega (arith, w.parts))
+      λ q h ne. (numbered n sn rules (omega (arith, states))).1 q (omega (arith, w.parts))
           ∙ ap (λ (x : Device). x.code) (w.others q ne)
-          ∙ sym ((numbered m sm rules (present m rules) fine before some).1 q h),
+          ∙ sym ((numbered m sm rules some).1 q h),
     )

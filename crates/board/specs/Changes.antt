@@ -4,7 +4,7 @@ use Rattle.std.proofs.Math.Path.{refl, subst}
 use Rattle.std.proofs.Common.{sym, ap, ap₂, ◌∙◌, add-one}
 use Rattle.std.proofs.Math.Logic.{inl, inr}
 use native.Mathlib.Omega.{arith}
-use Rattle.std.proofs.lemmas.Bool.{cases_lt, eqb-true, eqb-false, eq-eqb, ne_eqb, cond-true, cond-false}
+use Rattle.std.proofs.lemmas.Bool.{cases_lt, eqb-true, eqb-false, eq-eqb, ne_eqb, cond-true, cond-false, cond_both}
 use Rattle.std.proofs.lemmas.Bool.Decides.{nat_tests as tells_tests}
 use Rattle.bank.specs.States.{weight, digit}
 use Rattle.board.specs.Joining.{beside, change}
@@ -31,13 +31,10 @@ module _ (count : ℕ → ℕ) (s t : ℕ) where
       elim (cases_lt k (suc n)) [
         | inl l ↦
             let below = several_stays k n (omega arith) e in
-            ap (λ w. cond (digit count s n == digit count t n) w (beside w n)) below ∙ both (digit count s n == digit count t n)
+            ap (λ w. cond (digit count s n == digit count t n) w (beside w n)) below
+            ∙ cond_both (digit count s n == digit count t n) Several Several (λ c. c ≡ Several) (λ _. refl) (λ _. refl)
         | inr l ↦ let same : k ≡ suc n = omega arith in ap (change count s t) (sym same) ∙ e
       ]
-    where
-      both : (b : Bool) → cond b Several Several ≡ Several
-      both true = refl
-      both false = refl
 
   -- states that differ in none of the first k parts, and in just one of them
   abbrev pub Agree : ℕ → Type 0

@@ -1,11 +1,10 @@
 -- The tests of rules, of lawful states and of joined ones say what they are meant to say.
-use Rattle.std.specs.Prelude.{◌≡◌, ℕ, ◌≤◌, Bool, true, false, cond, List, Decides, ◌==◌, nat_le, nat_lt, refl}
+use Rattle.std.specs.Prelude.{◌≡◌, ℕ, ◌≤◌, Bool, true, false, cond, Decides, ◌==◌, nat_le, nat_lt, refl}
 use Rattle.std.proofs.Common.{arith}
 use Rattle.std.proofs.lemmas.Bool.{leb-true, le-leb}
 use Rattle.std.proofs.lemmas.Bool.Decides.{Decides-and, Decides-eqb, Decides-ltb, Decides-like}
 use Rattle.std.proofs.ByRecursion.{Decides-by_and}
-use Rattle.std.specs.List.{AllByRecursion}
-use Rattle.device.specs.Every.{every}
+use Rattle.std.specs.List.{list_all, AllByRecursion}
 use Rattle.table.specs.declared.rule.Rule.{Rule}
 use Rattle.table.specs.declared.rule.Rule.TheVariants.{Window, Spread, Step, Need, Cap}
 use Rattle.board.specs.Layouts.{Layout, states_of, level_at}
@@ -45,14 +44,10 @@ decides_allows l s t p (Step rail most) =
 decides_allows l s t p (Need clock above rail least) = always
 decides_allows l s t p (Cap clock most) = always
 
--- each of a list
-decides_every : {X : Type 0} (test : X → Bool) (P : X → Type 0) → ((x : X) → Decides (test x) (P x)) → (xs : List X) → Decides (every test xs) (AllByRecursion P xs)
-decides_every test P each xs = Decides-by_and test P (every test) each refl (λ _ _. refl) xs
-
 pub decides_lawful : (l : Layout) (s : ℕ) → Decides (is_lawful l s) (Lawful l s)
 decides_lawful l s =
     Decides-like (is_lawful l s) (λ w. record { below = w.0; keeps = w.1 }) (λ w. (w.below, w.keeps))
-    (Decides-and (nat_lt s (states_of l)) (every (holds l s) l.rules) (Decides-ltb s (states_of l)) (decides_every (holds l s) (Holds l s) (decides_holds l s) l.rules))
+    (Decides-and (nat_lt s (states_of l)) (list_all (holds l s) l.rules) (Decides-ltb s (states_of l)) (Decides-by_and (holds l s) (Holds l s) (list_all (holds l s)) (decides_holds l s) refl (λ _ _. refl) l.rules))
 
-pub decides_steps : (l : Layout) (s t p : ℕ) → Decides (every (allows l s t p) l.rules) (AllByRecursion (Allows l s t p) l.rules)
-decides_steps l s t p = decides_every (allows l s t p) (Allows l s t p) (decides_allows l s t p) l.rules
+pub decides_steps : (l : Layout) (s t p : ℕ) → Decides (list_all (allows l s t p) l.rules) (AllByRecursion (Allows l s t p) l.rules)
+decides_steps l s t p = Decides-by_and (allows l s t p) (Allows l s t p) (list_all (allows l s t p)) (decides_allows l s t p) refl (λ _ _. refl) l.rules

@@ -6,8 +6,7 @@
 --   Allows       a step rule allows the write
 --   Joined       two states are joined
 use Rattle.std.specs.Prelude.{◌≡◌, ℕ, zero, suc, ◌<◌, Bool, true, false, cond, ◌&&◌, ◌==◌, ◌≢◌, nat_le}
-use Rattle.std.specs.List.{AllByRecursion}
-use Rattle.device.specs.Every.{every}
+use Rattle.std.specs.List.{list_all, AllByRecursion}
 use Rattle.table.specs.declared.rule.Rule.{Rule}
 use Rattle.table.specs.declared.rule.Rule.TheVariants.{Window, Spread, Step, Need, Cap}
 use Rattle.bank.specs.States.{digit}
@@ -38,7 +37,7 @@ allows l s t p (Cap clock most) = true
 -- whether one allowed write leads from s to t, given where they differ
 abbrev pub one_write : Layout → ℕ → ℕ → Change → Bool
 one_write l s t Same = false
-one_write l s t (Only p) = l.linked p (code_at l s p) (code_at l t p) && every (allows l s t p) l.rules
+one_write l s t (Only p) = l.linked p (code_at l s p) (code_at l t p) && list_all (allows l s t p) l.rules
 one_write l s t Several = false
 
 -- whether two states are one allowed write apart

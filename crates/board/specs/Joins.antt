@@ -1,10 +1,10 @@
 -- Joined states: the test says what is meant, and the relation is symmetric.
-use Rattle.std.specs.Prelude.{◌≡◌, ℕ, ◌-◌, ◌≤◌, Bool, true, cond, ◌&&◌, List, [], ◌∷◌, Decides, ◌==◌, ◌≢◌, nat_le, nat_lt}
+use Rattle.std.specs.Prelude.{◌≡◌, ℕ, ◌-◌, ◌≤◌, true, cond, ◌&&◌, List, Decides, ◌==◌, ◌≢◌, nat_le, nat_lt}
+use Rattle.std.specs.List.{list_all}
 use Rattle.std.proofs.Math.Path.{refl, sym, ap}
 use Rattle.std.proofs.Common.{ap₂, ◌∙◌, inl, inr, arith, add_comm}
 use Rattle.std.proofs.lemmas.Bool.{and_parts, and_from, cases_lt, false≢true, ltb-true}
 use Rattle.device.specs.Device.{Device}
-use Rattle.device.specs.Every.{every}
 use Rattle.table.specs.declared.rule.Rule.{Rule}
 use Rattle.table.specs.declared.rule.Rule.TheVariants.{Window, Spread, Step, Need, Cap}
 use Rattle.search.specs.Graphs.{Meaning}
@@ -25,7 +25,7 @@ use Rattle.board.specs.Verdicts.{cases_verdict, states_are, no_states}
 module _ (l : Layout) (s t : ℕ) where
   -- what adjacent states tell
   Apart : ℕ → Type 0
-  Apart p = (change l.count s t l.parts ≡ Only p) × (l.linked p (code_at l s p) (code_at l t p) ≡ true) × (every (allows l s t p) l.rules ≡ true)
+  Apart p = (change l.count s t l.parts ≡ Only p) × (l.linked p (code_at l s p) (code_at l t p) ≡ true) × (list_all (allows l s t p) l.rules ≡ true)
 
   adjacent_part : adjacent l s t ≡ true → (p : ℕ) × Apart p
   unfolding Apart
@@ -34,14 +34,14 @@ module _ (l : Layout) (s t : ℕ) where
       go : (w : Change) → change l.count s t l.parts ≡ w → (p : ℕ) × Apart p
       go Same e = absurd (false≢true (sym (ap (one_write l s t) e) ∙ h))
       go (Only p) e =
-          let both = and_parts (l.linked p (code_at l s p) (code_at l t p)) (every (allows l s t p) l.rules) (sym (ap (one_write l s t) e) ∙ h) in
+          let both = and_parts (l.linked p (code_at l s p) (code_at l t p)) (list_all (allows l s t p) l.rules) (sym (ap (one_write l s t) e) ∙ h) in
           (p, (e, both.0, both.1))
       go Several e = absurd (false≢true (sym (ap (one_write l s t) e) ∙ h))
 
   part_adjacent : (p : ℕ) → Apart p → adjacent l s t ≡ true
   unfolding Apart
   part_adjacent p w =
-      ap (one_write l s t) w.0 ∙ and_from (l.linked p (code_at l s p) (code_at l t p)) (every (allows l s t p) l.rules) w.1 w.2
+      ap (one_write l s t) w.0 ∙ and_from (l.linked p (code_at l s p) (code_at l t p)) (list_all (allows l s t p) l.rules) w.1 w.2
 
   joined_is : are_joined l s t ≡ true → Joined l s t
   unfolding Apart
@@ -79,11 +79,7 @@ module _ (l : Layout) (s t : ℕ) where
 pub decides_joined : (l : Layout) (s t : ℕ) → Decides (are_joined l s t) (Joined l s t)
 decides_joined l s t = (joined_is l s t, is_joined l s t)
 
--- tests that agree on each element
-every_same : {X : Type 0} (f g : X → Bool) → ((x : X) → f x ≡ g x) → (xs : List X) → every f xs ≡ every g xs
-every_same f g same [] = refl
-every_same f g same (x ∷ xs) = ap₂ (λ a b. a && b) (same x) (every_same f g same xs)
-
+-- a step rule allows a write and its way back alike
 allows_turned : (l : Layout) (s t p : ℕ) (r : Rule) → allows l s t p r ≡ allows l t s p r
 allows_turned l s t p (Window rail floor ceiling) = refl
 allows_turned l s t p (Spread rail other most) = refl
@@ -96,7 +92,7 @@ module _ (l : Layout) (turned : (p a b : ℕ) → l.linked p a b ≡ l.linked p 
   write_turned : (s t : ℕ) (w : Change) → one_write l s t w ≡ one_write l t s w
   write_turned s t Same = refl
   write_turned s t (Only p) =
-      ap₂ (λ a b. a && b) (turned p (code_at l s p) (code_at l t p)) (every_same (allows l s t p) (allows l t s p) (allows_turned l s t p) l.rules)
+      ap₂ (λ a b. a && b) (turned p (code_at l s p) (code_at l t p)) (λ i. list_all (λ r. allows_turned l s t p r i) l.rules)
   write_turned s t Several = refl
 
   adjacent_turned : (s t : ℕ) → adjacent l s t ≡ adjacent l t s
@@ -128,5 +124,5 @@ pub board_meaning : (m : BankModel) → Sound m → (rules : List Rule) → Mean
 board_meaning m sound rules =
     let l = layout_of m rules in
     guarded (states_of l) (is_lawful l) (adjacent l) (few_states l)
-    (λ s h. ltb-true s (states_of l) (and_parts (nat_lt s (states_of l)) (every (holds l s) rules) h).0)
+    (λ s h. ltb-true s (states_of l) (and_parts (nat_lt s (states_of l)) (list_all (holds l s) rules) h).0)
     (adjacent_turned l (linked_turned m sound)) (adjacent_other l)

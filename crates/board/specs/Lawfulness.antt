@@ -5,8 +5,7 @@
 --   Holds       a rule holds in a state
 --   Lawful      a state is lawful
 use Rattle.std.specs.Prelude.{ℕ, ◌+◌, ◌-◌, ◌<◌, ◌≤◌, Bool, true, cond, ◌&&◌, nat_le, nat_lt}
-use Rattle.std.specs.List.{AllByRecursion}
-use Rattle.device.specs.Every.{every}
+use Rattle.std.specs.List.{list_all, AllByRecursion}
 use Rattle.table.specs.declared.rule.Rule.{Rule}
 use Rattle.table.specs.declared.rule.Rule.TheVariants.{Window, Spread, Step, Need, Cap}
 use Rattle.board.specs.Layouts.{Layout, states_of, level_at}
@@ -25,7 +24,7 @@ holds l s (Cap clock most) = nat_le (level_at l s clock) most
 
 -- whether state s is lawful: it is one of the board's, and every rule holds
 abbrev pub is_lawful : Layout → ℕ → Bool
-is_lawful l s = nat_lt s (states_of l) && every (holds l s) l.rules
+is_lawful l s = nat_lt s (states_of l) && list_all (holds l s) l.rules
 
 -- two levels differ by at most this
 abbrev pub Near : ℕ → ℕ → ℕ → Type 0

@@ -1,23 +1,28 @@
 -- A board as no write changes it: a bank's parts with their codes, levels and one-write relations, and the rules.
 --   Layout       the parts and the rules
 --   layout_of    the layout of a bank under some rules
+--   layout       the layout of a board over any bank
 --   NoDefect     what a board without a defect has
 --   verdict_of   the number of states, or the first defect: 7 no part, 5 too many, 6 a rule that names no fitting part
 --   states_of    the number of states, 0 with a defect
 --   code_at      the code of a part in a state
 --   level_at     the level of a part in a state
+--   codes        the present code of each part of a bank
+--   encoded      the number of the present codes
 --   present      the state number of a bank's present codes
-use Rattle.std.specs.Prelude.{ℕ, ◌≤◌, Bool, cond, ◌&&◌, List, length, Some, None, Ok, Err, Option, Result, ◌==◌, nat_le, nat_lt}
-use Rattle.std.specs.List.{AllByRecursion}
+use Rattle.std.specs.Prelude.{ℕ, ◌≤◌, Bool, cond, ◌&&◌, List, length, Ok, Err, Result, ◌==◌, nat_le, nat_lt}
+use Rattle.std.specs.List.{list_all, AllByRecursion}
+use Rattle.std.specs.Result.{result_unwrap_or}
+use Rattle.std.specs.Vec.{vec_items}
 use Rattle.answer.specs.Answers.{no_state}
 use Rattle.answer.specs.declared.refusal.Refusal.{Refusal}
 use Rattle.answer.specs.declared.refusal.Refusal.TheVariants.{NoPart, TooMany, WrongPart}
-use Rattle.device.specs.Every.{every}
 use Rattle.device.specs.declared.kind.Kind.{Kind}
 use Rattle.table.specs.Names.{names_ok, Names}
 use Rattle.table.specs.declared.rule.Rule.{Rule}
 use Rattle.bank.specs.Banks.{BankModel}
-use Rattle.bank.specs.States.{weight, number, digit}
+use Rattle.bank.specs.States.{weight, number, digit, counts}
+use Rattle.board.specs.declared.Board.{Board}
 
 -- what no write changes
 pub record Layout : Type 0 where
@@ -39,6 +44,10 @@ layout_of m rules = record {
   rules = rules;
 }
 
+-- the layout of a board, by what its bank means
+abbrev pub layout : {B : Type 0} → (B → BankModel) → Board B → Layout
+layout model board = layout_of (model board.bank) (vec_items board.rules)
+
 -- at most six parts, 24 rules and 4,096 states
 abbrev pub fits : Layout → Bool
 fits l = nat_le l.parts 6 && (nat_le (length l.rules) 24 && nat_le (weight l.count l.parts) 4096)
@@ -47,7 +56,7 @@ fits l = nat_le l.parts 6 && (nat_le (length l.rules) 24 && nat_le (weight l.cou
 abbrev pub verdict_of : Layout → Result ℕ Refusal
 verdict_of l =
     cond (l.parts == 0) (Err NoPart)
-    (cond (fits l) (cond (every (names_ok l.kind) l.rules) (Ok (weight l.count l.parts)) (Err WrongPart)) (Err TooMany))
+    (cond (fits l) (cond (list_all (names_ok l.kind) l.rules) (Ok (weight l.count l.parts)) (Err WrongPart)) (Err TooMany))
 
 -- a board without a defect
 pub record NoDefect (l : Layout) : Type 0 where
@@ -59,19 +68,9 @@ pub record NoDefect (l : Layout) : Type 0 where
   -- each rule names rails and clocks that are there, and no rail twice
   pub named : AllByRecursion (Names l.kind) l.rules
 
--- no state at all with a defect
-abbrev pub states_by : Result ℕ Refusal → ℕ
-states_by (Ok n) = n
-states_by (Err why) = 0
-
--- the number of states
+-- the number of states, 0 with a defect
 abbrev pub states_of : Layout → ℕ
-states_of l = states_by (verdict_of l)
-
--- the defect, if there is one
-abbrev pub defect_by : Result ℕ Refusal → Option Refusal
-defect_by (Ok n) = None
-defect_by (Err why) = Some why
+states_of l = result_unwrap_or (verdict_of l) 0
 
 -- the code of part p in state s, 0 for an absent part
 abbrev pub code_at : Layout → ℕ → ℕ → ℕ
@@ -86,6 +85,14 @@ abbrev pub state_by : Result ℕ Refusal → ℕ → ℕ
 state_by (Ok n) s = s
 state_by (Err why) s = no_state
 
+-- the present code of each part
+abbrev pub codes : BankModel → ℕ → ℕ
+codes m p = (m.device p).code
+
+-- the number of the present codes
+abbrev pub encoded : BankModel → ℕ
+encoded m = number (counts m) (codes m) m.parts
+
 -- the present state of a bank under some rules
 abbrev pub present : BankModel → List Rule → ℕ
-present m rules = state_by (verdict_of (layout_of m rules)) (number (λ p. (m.device p).count) (λ p. (m.device p).code) m.parts)
+present m rules = state_by (verdict_of (layout_of m rules)) (encoded m)

@@ -1,19 +1,23 @@
 -- The numbers of a board's states.
-use Rattle.std.specs.Prelude.{◌≡◌, ℕ, ◌+◌, ◌*◌, ◌/◌, ◌%◌, ◌<◌, ◌≤◌, List, nat_lt}
-use Rattle.std.proofs.Common.{sym, ap, ap₂, ◌∙◌, arith, add-one}
-use Rattle.std.proofs.lemmas.Nat.{mul-le}
+use Rattle.std.specs.Prelude.{◌≡◌, ℕ, zero, suc, ◌+◌, ◌/◌, ◌<◌, ◌≤◌, List, nat_lt}
+use Rattle.std.specs.List.{fold, range_with_len}
+use Rattle.std.proofs.Common.{refl, add-zero, zero-add, sym, ap, ap₂, ◌∙◌, arith, add-one}
 use Rattle.std.proofs.lemmas.Bool.{cond-true, lt-ltb}
 use Rattle.table.specs.declared.rule.Rule.{Rule}
 use Rattle.bank.specs.Banks.{BankModel, Sound}
 use Rattle.bank.specs.States.{weight, number, digit, counts}
 use Rattle.bank.proofs.Digits.{weight_grows, number_below, number_same, number_digit, digit_number, digit_below, rest_more}
 use Rattle.board.specs.Boards.{Numbered, Decoded}
-use Rattle.board.specs.Layouts.{Layout, layout_of, code_at}
+use Rattle.board.specs.Layouts.{Layout, layout_of, code_at, codes, encoded, state_by, present}
 use Rattle.board.specs.Verdicts.{Flawless, flawless, states_are}
 
 -- the code of a part that is there
 pub code_there : (l : Layout) (s p : ℕ) → p < l.parts → code_at l s p ≡ digit l.count s p
 code_there l s p h = cond-true (nat_lt p l.parts) (digit l.count s p) 0 (lt-ltb p l.parts h)
+
+-- with no defect the present state is the number of the present codes
+pub present_is : (m : BankModel) (rules : List Rule) → Flawless (layout_of m rules) → present m rules ≡ encoded m
+present_is m rules w = ap (λ v. state_by v (encoded m)) w.verdict
 
 module _ (m : BankModel) (sound : Sound m) where
   pub some_codes : (p : ℕ) → p < m.parts → 1 ≤ counts m p
@@ -22,44 +26,22 @@ module _ (m : BankModel) (sound : Sound m) where
   codes_within : (p : ℕ) → p < m.parts → (m.device p).code < counts m p
   codes_within p h = (sound.sound p h).within
 
-  -- a turn of the encoding loop stays within small numbers
-  pub turn_fits : (k w x c : ℕ) → k < m.parts → weight (counts m) m.parts ≤ 4096
-      → w ≡ weight (counts m) k → x ≡ number (counts m) (λ p. (m.device p).code) k → c ≡ (m.device k).code
-      → (c * w ≤ 262144) × (x < 4096)
-  turn_fits k w x c h few ww xx cc =
-      let w_fits = weight_grows (counts m) k m.parts (omega arith) some_codes in
-      let x_below = number_below (counts m) (λ p. (m.device p).code) k (λ p l. codes_within p (omega arith)) in
-      let c_below = codes_within k h in
-      let c_most = (sound.sound k h).few in
-      (mul-le c w 64 4096 (omega arith) (omega arith), omega arith)
-
-  pub product_fits : (k w n : ℕ) → k < m.parts → weight (counts m) m.parts ≤ 4096 → w ≡ weight (counts m) k → n ≡ counts m k → w * n ≤ 262144
-  product_fits k w n h few ww nn =
-      let w_fits = weight_grows (counts m) k m.parts (omega arith) some_codes in
-      let n_most = (sound.sound k h).few in
-      mul-le w n 4096 64 (omega arith) (omega arith)
-
-  -- one part more
-  pub turn_more : (k w x c n : ℕ) → w ≡ weight (counts m) k → x ≡ number (counts m) (λ p. (m.device p).code) k → c ≡ (m.device k).code → n ≡ counts m k
-      → (w * n ≡ weight (counts m) (k + 1)) × (x + c * w ≡ number (counts m) (λ p. (m.device p).code) (k + 1))
-  turn_more k w x c n ww xx cc nn = (
-    ap₂ (λ a b. a * b) ww nn ∙ ap (weight (counts m)) (sym (add-one k)),
-    ap₂ (λ a b. a + b) xx (ap₂ (λ a b. a * b) cc ww) ∙ ap (number (counts m) (λ p. (m.device p).code)) (sym (add-one k)),
-  )
-
-  -- the whole number is a state's
-  pub number_fits : weight (counts m) m.parts ≤ 4096 → number (counts m) (λ p. (m.device p).code) m.parts < 4096
-  number_fits few =
-      let below = number_below (counts m) (λ p. (m.device p).code) m.parts codes_within in
-      omega arith
+  -- on a board with few enough states the weights and the numbers of the first k codes are as small
+  pub small : (k : ℕ) → k ≤ m.parts → weight (counts m) m.parts ≤ 4096 → (weight (counts m) k ≤ 4096) × (number (counts m) (codes m) k < 4096)
+  small k h few =
+      let grows = weight_grows (counts m) k m.parts h some_codes in
+      let below = number_below (counts m) (codes m) k (λ p l. codes_within p (omega arith)) in
+      (omega arith, omega arith)
 
   module _ (rules : List Rule) where
-    -- the number of the present codes decodes to them
-    pub numbered : (s : ℕ) → Flawless (layout_of m rules) → s ≡ number (counts m) (λ p. (m.device p).code) m.parts → Numbered m rules s
-    numbered s w e some =
-        let below = number_below (counts m) (λ p. (m.device p).code) m.parts codes_within in (
+    -- the present state decodes to the present codes
+    pub numbered : Numbered m rules (present m rules)
+    numbered some =
+        let w = flawless (layout_of m rules) some in
+        let e = present_is m rules w in
+        let below = number_below (counts m) (codes m) m.parts codes_within in (
           omega (arith, states_are (layout_of m rules) w),
-          λ p h. code_there (layout_of m rules) s p h ∙ ap (λ n. digit (counts m) n p) e ∙ digit_number (counts m) (λ q. (m.device q).code) m.parts codes_within p h,
+          λ p h. code_there (layout_of m rules) (present m rules) p h ∙ ap (λ n. digit (counts m) n p) e ∙ digit_number (counts m) (codes m) m.parts codes_within p h,
         )
 
     -- the codes of a state make it again
@@ -76,6 +58,16 @@ module _ (m : BankModel) (sound : Sound m) where
 pub rest_next : (count : ℕ → ℕ) (s p rest c : ℕ) → rest ≡ s / weight count p → c ≡ count p → rest / c ≡ s / weight count (p + 1)
 rest_next count s p rest c e f = ap₂ (λ a b. a / b) e f ∙ rest_more count s p ∙ ap (λ k. s / weight count k) (sym (add-one p))
 
--- the digit of the part that it stands at
-pub rest_digit : (count : ℕ → ℕ) (s k p rest c : ℕ) → k ≡ p → rest ≡ s / weight count k → c ≡ count p → rest % c ≡ digit count s p
-rest_digit count s k p rest c at e f = ap₂ (λ a b. a % b) (e ∙ ap (λ i. s / weight count i) at) f
+-- what is left past k parts, divided by the counts of n more
+rest_from : (count : ℕ → ℕ) (s k n : ℕ) → fold (λ rest p. rest / count p) (s / weight count k) (range_with_len k n) ≡ s / weight count (k + n)
+rest_from count s k zero = ap (λ i. s / weight count i) (sym (add-zero k))
+rest_from count s k (suc n) =
+    let same : k + 1 + n ≡ k + suc n = omega arith in
+    ap (λ rest. fold (λ rest p. rest / count p) rest (range_with_len (k + 1) n)) (rest_next count s k (s / weight count k) (count k) refl refl)
+    ∙ rest_from count s (k + 1) n ∙ ap (λ i. s / weight count i) same
+
+-- what is left past all parts before p
+pub rest_past : (count : ℕ → ℕ) (s p : ℕ) → fold (λ rest q. rest / count q) s (range_with_len 0 p) ≡ s / weight count p
+rest_past count s p =
+    let whole : s ≡ s / 1 = omega arith in
+    ap (λ rest. fold (λ rest q. rest / count q) rest (range_with_len 0 p)) whole ∙ rest_from count s 0 p ∙ ap (λ i. s / weight count i) (zero-add p)

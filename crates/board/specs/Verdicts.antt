@@ -1,18 +1,18 @@
 -- What the verdict on a layout tells.
-use Rattle.std.specs.Prelude.{◌≡◌, ℕ, ◌<◌, Bool, true, false, ◌&&◌, ◌⊎◌, List, length, Some, None, Ok, Err, Decides, Option, ◌==◌, nat_eq, nat_le, refl}
+use Rattle.std.specs.Prelude.{◌≡◌, ℕ, ◌<◌, Bool, true, false, ◌&&◌, ◌⊎◌, ◌↔◌, List, length, Some, None, Ok, Err, Decides, Option, ◌==◌, nat_eq, nat_le, refl}
 use Rattle.std.proofs.Common.{sym, ap, ◌∙◌, inl, inr, arith}
 use Rattle.std.proofs.lemmas.Bool.{and_parts, and_from, eqb-false, ne_eqb, leb-true, le-leb}
 use Rattle.std.proofs.ByRecursion.{Decides-by_and}
-use Rattle.std.specs.List.{AllByRecursion}
+use Rattle.std.specs.List.{list_all, AllByRecursion}
+use Rattle.std.specs.Result.{result_unwrap_or, result_err}
 use Rattle.answer.specs.declared.refusal.Refusal.{Refusal}
 use Rattle.answer.specs.declared.refusal.Refusal.TheVariants.{NoPart, TooMany, WrongPart}
-use Rattle.device.specs.Every.{every}
 use Rattle.device.specs.declared.kind.Kind.{Kind}
 use Rattle.table.specs.Names.{names_ok, Names}
 use Rattle.table.specs.declared.rule.Rule.{Rule}
 use Rattle.table.proofs.Naming.{named, names}
 use Rattle.bank.specs.States.{weight}
-use Rattle.board.specs.Layouts.{Layout, NoDefect, fits, verdict_of, defect_by, states_by, states_of}
+use Rattle.board.specs.Layouts.{Layout, NoDefect, fits, verdict_of, states_of}
 
 -- a layout with no defect
 pub record Flawless (l : Layout) : Type 0 where
@@ -20,8 +20,8 @@ pub record Flawless (l : Layout) : Type 0 where
   pub whole : NoDefect l
 
 -- the test of all names
-decides_named : (kind : ℕ → Kind) (rules : List Rule) → Decides (every (names_ok kind) rules) (AllByRecursion (Names kind) rules)
-decides_named kind rules = Decides-by_and (names_ok kind) (Names kind) (every (names_ok kind)) (λ r. (named kind r, names kind r)) refl (λ _ _. refl) rules
+decides_named : (kind : ℕ → Kind) (rules : List Rule) → Decides (list_all (names_ok kind) rules) (AllByRecursion (Names kind) rules)
+decides_named kind rules = Decides-by_and (names_ok kind) (Names kind) (list_all (names_ok kind)) (λ r. (named kind r, names kind r)) refl (λ _ _. refl) rules
 
 -- a layout with a defect
 pub Flawed : Layout → Type 0
@@ -29,9 +29,9 @@ Flawed l = (why : Refusal) × (verdict_of l ≡ Err why)
 
 pub cases_verdict : (l : Layout) → Flawless l ⊎ Flawed l
 unfolding Flawed
-cases_verdict l = go (l.parts == 0) (fits l) (every (names_ok l.kind) l.rules) refl refl refl
+cases_verdict l = go (l.parts == 0) (fits l) (list_all (names_ok l.kind) l.rules) refl refl refl
   where
-    go : (a b c : Bool) → (l.parts == 0) ≡ a → fits l ≡ b → every (names_ok l.kind) l.rules ≡ c → Flawless l ⊎ Flawed l
+    go : (a b c : Bool) → (l.parts == 0) ≡ a → fits l ≡ b → list_all (names_ok l.kind) l.rules ≡ c → Flawless l ⊎ Flawed l
     go true b c x y z = inr (NoPart, simp x)
     go false false c x y z = inr (TooMany, simp (x, y))
     go false true false x y z = inr (WrongPart, simp (x, y, z))
@@ -53,11 +53,11 @@ cases_verdict l = go (l.parts == 0) (fits l) (every (names_ok l.kind) l.rules) r
 -- with a defect there is no state
 pub no_states : (l : Layout) → Flawed l → states_of l ≡ 0
 unfolding Flawed
-no_states l w = ap states_by w.1
+no_states l w = ap (λ v. result_unwrap_or v 0) w.1
 
 -- without one the states are the product's
 pub states_are : (l : Layout) → Flawless l → states_of l ≡ weight l.count l.parts
-states_are l w = ap states_by w.verdict
+states_are l w = ap (λ v. result_unwrap_or v 0) w.verdict
 
 -- where there is a state there is no defect
 pub flawless : (l : Layout) → 0 < states_of l → Flawless l
@@ -86,19 +86,19 @@ whole_ok l w =
     let b : fits l ≡ true =
     and_from (nat_le l.parts 6) (nat_le (length l.rules) 24 && nat_le (weight l.count l.parts) 4096) (le-leb l.parts 6 w.few)
     (and_from (nat_le (length l.rules) 24) (nat_le (weight l.count l.parts) 4096) (le-leb (length l.rules) 24 w.ruled) (le-leb (weight l.count l.parts) 4096 w.bounded)) in
-    let c : every (names_ok l.kind) l.rules ≡ true = (decides_named l.kind l.rules).1 w.named in
+    let c : list_all (names_ok l.kind) l.rules ≡ true = (decides_named l.kind l.rules).1 w.named in
     simp (a, b, c)
 
 -- no defect is found exactly where there is none
-pub finds_none : (l : Layout) (r : Option Refusal) → r ≡ defect_by (verdict_of l) → (r ≡ None → NoDefect l) × (NoDefect l → r ≡ None)
+pub finds_none : (l : Layout) (r : Option Refusal) → r ≡ result_err (verdict_of l) → (r ≡ None) ↔ NoDefect l
 unfolding Flawed
 finds_none l r found = (
   (λ e. elim (cases_verdict l) [
     | inl w ↦ w.whole
     | inr w ↦
-        let other : Some w.0 ≡ None = sym (ap defect_by w.1) ∙ sym found ∙ e in
+        let other : Some w.0 ≡ None = sym (ap result_err w.1) ∙ sym found ∙ e in
         let z : ◌≡◌ {A = ℕ} 0 1 = cc in
         absurd (omega arith)
   ]),
-  λ w. found ∙ ap defect_by (whole_ok l w),
+  λ w. found ∙ ap result_err (whole_ok l w),
 )

@@ -3,7 +3,7 @@ ghost use Rattle.std.specs.Prelude.{◌≡◌, Decides};
 ghost use Rattle.board.specs.Boards.{board_graph};
 ghost use Rattle.board.specs.Joining.{are_joined, Joined};
 ghost use Rattle.board.specs.Lawfulness.{is_lawful, Lawful};
-ghost use Rattle.board.specs.Layouts.{layout_of};
+ghost use Rattle.board.specs.Layouts.{layout};
 ghost use Rattle.board.specs.Joins.{board_meaning, few_states};
 
 use super::Board;
@@ -12,30 +12,28 @@ use bank::Bank;
 use search::Graph;
 
 impl<B: Bank> Graph for Board<B> {
-    ghost model = { λ b. board_graph (layout_of (B.Bank.model b.bank) b.rules.items) };
+    ghost model = { λ b. board_graph (layout B.model b) };
 
-    ghost meaning = { λ b. board_meaning (B.Bank.model b.bank) (B.Bank.sound b.bank) b.rules.items };
+    ghost meaning = { λ b. board_meaning (B.model b.bank) (B.sound b.bank) b.rules.items };
 
-    ghost few = { λ b. few_states (layout_of (B.Bank.model b.bank) b.rules.items) };
+    ghost few = { λ b. few_states (layout B.model b) };
 
     fn states(&self) -> usize {
-        match self.verdict() {
-            Ok(states) => states,
-            Err(_) => 0,
-        }
+        self.verdict().unwrap_or(0)
     }
 
     fn lawful(&self, state: State) -> bool
-        ensures value { result ≡ is_lawful (layout_of (B.Bank.model self.now.bank) self.now.rules.items) state }
-        ensures decides { Decides result (Lawful (layout_of (B.Bank.model self.now.bank) self.now.rules.items) state) }
+        ensures value { result ≡ is_lawful (layout B.model self.now) state }
+        ensures decides { Decides result (Lawful (layout B.model self.now) state) }
     {
-        self.is_lawful(state)
+        usize::from(state) < self.states() && self.keeps(state)
     }
 
+    // The cheap tests come first: most pairs differ in more than one part.
     fn joined(&self, from: State, to: State) -> bool
-        ensures value { result ≡ are_joined (layout_of (B.Bank.model self.now.bank) self.now.rules.items) from to }
-        ensures decides { Decides result (Joined (layout_of (B.Bank.model self.now.bank) self.now.rules.items) from to) }
+        ensures value { result ≡ are_joined (layout B.model self.now) from to }
+        ensures decides { Decides result (Joined (layout B.model self.now) from to) }
     {
-        self.are_joined(from, to)
+        self.adjacent(from, to) && self.lawful(from) && self.lawful(to)
     }
 }

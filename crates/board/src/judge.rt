@@ -1,6 +1,6 @@
 // The inspection of a bank under rules.
 ghost use Rattle.std.specs.Prelude.{◌≡◌};
-ghost use Rattle.device.specs.Every.{every};
+ghost use Rattle.std.specs.List.{list_all};
 ghost use Rattle.table.specs.Names.{names_ok};
 ghost use Rattle.board.specs.Layouts.{layout_of, verdict_of};
 
@@ -12,19 +12,14 @@ use table::{MOST_PARTS, MOST_RULES, Rule};
 
 // Whether each rule names parts that are there, of the right kind, and no rail twice.
 fn all_named<B: Bank>(bank: &B, rules: &[Rule]) -> bool
-    ensures { result ≡ every (names_ok (B.Bank.model bank.now).kind) rules.now }
+    ensures { result ≡ list_all (names_ok (B.model bank.now).kind) rules.now }
 {
-    'rules: for rule in rules {
-        if !fits_rule(bank, rule) {
-            return false;
-        }
-    }
-    true
+    rules.iter().all(|rule| fits_rule(bank, rule))
 }
 
-// The number of states, or the first defect: no part, too many parts, rules or states, a rule that names no fitting part.
+// The number of states, or the first defect: no part, too many parts, rules or states, a rule that fits no part.
 pub(crate) fn judge<B: Bank>(bank: &B, rules: &[Rule]) -> Result<usize, Refusal>
-    ensures { result ≡ verdict_of (layout_of (B.Bank.model bank.now) rules.now) }
+    ensures { result ≡ verdict_of (layout_of (B.model bank.now) rules.now) }
 {
     let parts = usize::from(bank.parts());
     if parts == 0 {
@@ -33,14 +28,9 @@ pub(crate) fn judge<B: Bank>(bank: &B, rules: &[Rule]) -> Result<usize, Refusal>
     if parts > MOST_PARTS || rules.len() > MOST_RULES {
         return Err(Refusal::TooMany);
     }
-    match product(bank) {
-        None => Err(Refusal::TooMany),
-        Some(states) => {
-            if all_named(bank, rules) {
-                Ok(states)
-            } else {
-                Err(Refusal::WrongPart)
-            }
-        }
+    let states = product(bank).ok_or(Refusal::TooMany)?;
+    if !all_named(bank, rules) {
+        return Err(Refusal::WrongPart);
     }
+    Ok(states)
 }

@@ -1,9 +1,10 @@
 // A board's states by number: the present one, and the codes of any.
-ghost use Rattle.std.specs.Prelude.{◌≡◌, ◌≤◌, None};
+ghost use Rattle.std.specs.Prelude.{◌≡◌, ◌≤◌, ◌↔◌, None};
+ghost use Rattle.std.specs.Result.{result_err};
 ghost use Rattle.bank.specs.States.{number, weight, counts};
 ghost use Rattle.board.specs.Boards.{Numbered, Decoded};
 ghost use Rattle.board.specs.Joining.{change as change_of};
-ghost use Rattle.board.specs.Layouts.{layout_of, NoDefect, verdict_of, defect_by, code_at, present};
+ghost use Rattle.board.specs.Layouts.{layout, NoDefect, verdict_of, code_at, encoded, present};
 
 use super::Board;
 use super::change::Change;
@@ -37,27 +38,25 @@ impl<B: Bank> Board<B> {
 
     // The number of states, or the first defect.
     pub(crate) fn verdict(&self) -> Result<usize, Refusal>
-        ensures { result ≡ verdict_of (layout_of (B.Bank.model self.now.bank) self.now.rules.items) }
+        ensures { result ≡ verdict_of (layout B.model self.now) }
     {
         judge(&self.bank, &self.rules)
     }
 
     // The first defect of the board: 7, 5 or 6, or none.
     pub fn inspect(&self) -> Option<Refusal>
-        ensures none { (result ≡ None → NoDefect (layout_of (B.Bank.model self.now.bank) self.now.rules.items)) × (NoDefect (layout_of (B.Bank.model self.now.bank) self.now.rules.items) → result ≡ None) }
-        ensures first { result ≡ defect_by (verdict_of (layout_of (B.Bank.model self.now.bank) self.now.rules.items)) }
+        ensures none { (result ≡ None) ↔ NoDefect (layout B.model self.now) }
+        ensures first { result ≡ result_err (verdict_of (layout B.model self.now)) }
     {
-        match self.verdict() {
-            Ok(_) => None,
-            Err(why) => Some(why),
-        }
+        self.verdict().err()
     }
 
     // The number of the present codes, on a board with no defect.
     fn encode(&self) -> State
-        requires { weight (counts (B.Bank.model self.now.bank)) (B.Bank.model self.now.bank).parts ≤ 4096 }
-        ensures { result ≡ number (λ p. ((B.Bank.model self.now.bank).device p).count) (λ p. ((B.Bank.model self.now.bank).device p).code) (B.Bank.model self.now.bank).parts }
+        requires { let m = B.model self.now.bank in weight (counts m) m.parts ≤ 4096 }
+        ensures { result ≡ encoded (B.model self.now.bank) }
     {
+        // A loop: a `fold` would have to carry the product beside the number.
         let mut product = 1;
         let mut state = 0;
         'parts: for part in 0..self.bank.parts() {
@@ -69,42 +68,37 @@ impl<B: Bank> Board<B> {
 
     // The present state, or none with a defect.
     pub fn state(&self) -> State
-        ensures state { result ≡ present (B.Bank.model self.now.bank) self.now.rules.items }
-        ensures numbered { Numbered (B.Bank.model self.now.bank) self.now.rules.items result }
+        ensures state { result ≡ present (B.model self.now.bank) self.now.rules.items }
+        ensures numbered { Numbered (B.model self.now.bank) self.now.rules.items result }
     {
-        match self.verdict() {
-            Ok(_) => self.encode(),
-            Err(_) => NONE,
-        }
+        self.verdict().map_or(NONE, |_| self.encode())
     }
 
     // The code of a part in a state, 0 for an absent part.
     pub fn code_at(&self, state: State, part: u8) -> Code
-        ensures code { result ≡ code_at (layout_of (B.Bank.model self.now.bank) self.now.rules.items) state part }
-        ensures decoded { Decoded (layout_of (B.Bank.model self.now.bank) self.now.rules.items) state }
+        ensures code { result ≡ code_at (layout B.model self.now) state part }
+        ensures decoded { Decoded (layout B.model self.now) state }
     {
         if part >= self.bank.parts() {
             return 0;
         }
-        let mut rest = state;
-        'parts: for before in 0..part {
-            rest /= self.bank.count(before);
-        }
+        let rest = (0..part).fold(state, |rest, before| rest / self.bank.count(before));
         rest % self.bank.count(part)
     }
 
     // Where two states differ.
     pub fn change(&self, from: State, to: State) -> Change
-        ensures { result ≡ change_of (λ p. ((B.Bank.model self.now.bank).device p).count) from to (B.Bank.model self.now.bank).parts }
+        ensures { let l = layout B.model self.now in result ≡ change_of l.count from to l.parts }
     {
+        // A loop: a `try_fold` would have to carry both numbers beside the change.
         let mut change = Change::Same;
         let mut a = from;
         let mut b = to;
         'parts: for part in 0..self.bank.parts() {
             let count = self.bank.count(part);
             change = change.with(part, a % count == b % count);
-            if let Change::Several = change {
-                return Change::Several;
+            if change == Change::Several {
+                return change;
             }
             a /= count;
             b /= count;

@@ -1,13 +1,20 @@
--- Counting the numbers that pass a test, one by one.
-use Rattle.std.proofs.Common.{◌≡◌, ℕ, ◌+◌, ◌≤◌, Bool, cond, sym, ap, add-one, arith}
-use Rattle.std.proofs.lemmas.Bool.{cond_both}
+-- Counting the numbers of a range that pass a test.
+use Rattle.std.proofs.Common.{◌≡◌, ℕ, zero, suc, ◌+◌, Bool, true, false, cond, List, ◌∷◌, length, ap, add-zero, add-one, zero-add, arith}
+use Rattle.std.specs.List.{filter, range_with_len}
 use Rattle.search.specs.Graphs.{passing}
 
--- one number more
-pub passing_more : (test : ℕ → Bool) (n count more : ℕ) (b : Bool) → b ≡ test n → more ≡ count + cond b 1 0
-    → (count ≡ passing test n) × (count ≤ n) → (more ≡ passing test (n + 1)) × (more ≤ n + 1)
-passing_more test n count more b e m was =
-    let same : ◌≡◌ {A = ℕ} (cond (test n) 1 0) (cond b 1 0) = ap (λ t. cond {A = ℕ} t 1 0) (sym e) in
-    let most : cond {A = ℕ} b 1 0 ≤ 1 = cond_both b 1 0 (λ x. x ≤ 1) (λ _. omega arith) (λ _. omega arith) in
-    let next = ap (passing test) (add-one n) in
-    (omega (arith, was), omega (arith, was))
+one_more : (b : Bool) (x : ℕ) (xs : List ℕ) → length (cond b (x ∷ xs) xs) ≡ cond b 1 0 + length xs
+one_more true x xs = omega arith
+one_more false x xs = omega arith
+
+passing_from : (test : ℕ → Bool) (a n : ℕ) → passing test a + length (filter test (range_with_len a n)) ≡ passing test (a + n)
+passing_from test a zero = omega (arith, ap (passing test) (add-zero a))
+passing_from test a (suc n) =
+    let here = one_more (test a) a (filter test (range_with_len (a + 1) n)) in
+    let next = ap (passing test) (add-one a) in
+    let same : a + 1 + n ≡ a + suc n = omega arith in
+    omega (arith, passing_from test (a + 1) n, here, next, ap (passing test) same)
+
+-- those below n
+pub passing_range : (test : ℕ → Bool) (n : ℕ) → length (filter test (range_with_len 0 n)) ≡ passing test n
+passing_range test n = omega (arith, passing_from test 0 n, ap (passing test) (zero-add n))

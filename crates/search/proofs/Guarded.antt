@@ -1,13 +1,8 @@
 -- A symmetric relation between different states, kept to lawful ones, makes a graph.
-use Rattle.std.proofs.Common.{◌≡◌, ℕ, ◌<◌, ◌≤◌, Bool, true, false, ◌&&◌, refl, ap₂}
+use Rattle.std.proofs.Common.{◌≡◌, ℕ, ◌<◌, ◌≤◌, Bool, true, ◌&&◌, ap₂}
+use Rattle.std.proofs.Math.Bool.{and_comm}
 use Rattle.std.proofs.lemmas.Bool.{and_parts}
 use Rattle.search.specs.Graphs.{Meaning}
-
-and_turned : (x y : Bool) → (x && y) ≡ (y && x)
-and_turned true true = refl
-and_turned true false = refl
-and_turned false true = refl
-and_turned false false = refl
 
 pub guarded : (n : ℕ) (lawful : ℕ → Bool) (apart : ℕ → ℕ → Bool)
     → n ≤ 4096
@@ -18,7 +13,7 @@ pub guarded : (n : ℕ) (lawful : ℕ → Bool) (apart : ℕ → ℕ → Bool)
 guarded n lawful apart few within symmetric different = record {
   few = few;
   within = within;
-  symmetric = λ s t. ap₂ (λ x y. x && y) (symmetric s t) (and_turned (lawful s) (lawful t));
+  symmetric = λ s t. ap₂ (λ x y. x && y) (symmetric s t) (and_comm (lawful s) (lawful t));
   between = λ s t h. and_parts (lawful s) (lawful t) (and_parts (apart s t) (lawful s && lawful t) h).1;
   different = λ s t h. different s t (and_parts (apart s t) (lawful s && lawful t) h).0;
 }

@@ -32,24 +32,16 @@ pub trait Graph {
 pub fn count_lawful<G: Graph>(graph: &G) -> usize
     ensures { result ≡ passing (G.Graph.model graph.now).lawful (G.Graph.model graph.now).states }
 {
-    let mut count = 0;
-    'states: for state in 0..graph.states() {
-        if graph.lawful(state as State) {
-            count += 1;
-        }
-    }
-    count
+    (0..graph.states() as State)
+        .filter(|state| graph.lawful(*state))
+        .count()
 }
 
 // How many states are joined to a state.
 pub fn count_joined<G: Graph>(graph: &G, from: State) -> usize
     ensures { result ≡ passing ((G.Graph.model graph.now).joined from) (G.Graph.model graph.now).states }
 {
-    let mut count = 0;
-    'states: for state in 0..graph.states() {
-        if graph.joined(from, state as State) {
-            count += 1;
-        }
-    }
-    count
+    (0..graph.states() as State)
+        .filter(|state| graph.joined(from, *state))
+        .count()
 }

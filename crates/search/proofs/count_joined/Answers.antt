@@ -1,12 +1,12 @@
-use Rattle.std.proofs.Common.{true, false, arith}
-use Rattle.search.proofs.Counting.{passing_more}
+use Rattle.std.proofs.Common.{◌∙◌, rules, arith, tests}
+use Rattle.std.proofs.lemmas.Iterator.{YieldsList-from_range}
+use Rattle.std.proofs.lemmas.Iterator.Consumers.{count_from_yields_List, YieldsList-from_filter}
+use Rattle.search.proofs.Counting.{passing_range}
 use Rattle.search.proofs.count_joined.Goals as goal
-use Rattle.search.proofs.count_joined.Goals.{then-joined, else-joined}
 
-pub states-preserved : goal.states-preserved
-states-preserved g c =
-    let test = (g.G.Graph.model c.args.graph.now).joined c.args.from in
-    elim c.if-joined.branch [
-      | then-joined w ↦ passing_more test c.states.state c.states.count c.if-joined.count true w.if-joined.ensures w.count-is c.states.invariant
-      | else-joined w ↦ passing_more test c.states.state c.states.count c.if-joined.count false w.if-joined.ensures (omega (arith, w.count-is)) c.states.invariant
-    ]
+pub returns : goal.returns
+returns g c =
+    let graph = g.G.Graph.model c.args.graph.now in
+    count_from_yields_List c.filter.result _ c.count.ensures.ran
+    (YieldsList-from_filter _ (graph.joined c.args.from) (YieldsList-from_range 0 graph.states graph.states (cc) (omega arith)) c.filter.ensures.closure (λ x r q k. search (rules, tests)))
+    ∙ passing_range (graph.joined c.args.from) graph.states

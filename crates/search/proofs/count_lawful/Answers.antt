@@ -1,12 +1,12 @@
-use Rattle.std.proofs.Common.{true, false, arith}
-use Rattle.search.proofs.Counting.{passing_more}
+use Rattle.std.proofs.Common.{◌∙◌, rules, arith, tests}
+use Rattle.std.proofs.lemmas.Iterator.{YieldsList-from_range}
+use Rattle.std.proofs.lemmas.Iterator.Consumers.{count_from_yields_List, YieldsList-from_filter}
+use Rattle.search.proofs.Counting.{passing_range}
 use Rattle.search.proofs.count_lawful.Goals as goal
-use Rattle.search.proofs.count_lawful.Goals.{then-lawful, else-lawful}
 
-pub states-preserved : goal.states-preserved
-states-preserved g c =
-    let test = (g.G.Graph.model c.args.graph.now).lawful in
-    elim c.if-lawful.branch [
-      | then-lawful w ↦ passing_more test c.states.state c.states.count c.if-lawful.count true w.if-lawful.ensures w.count-is c.states.invariant
-      | else-lawful w ↦ passing_more test c.states.state c.states.count c.if-lawful.count false w.if-lawful.ensures (omega (arith, w.count-is)) c.states.invariant
-    ]
+pub returns : goal.returns
+returns g c =
+    let graph = g.G.Graph.model c.args.graph.now in
+    count_from_yields_List c.filter.result _ c.count.ensures.ran
+    (YieldsList-from_filter _ graph.lawful (YieldsList-from_range 0 graph.states graph.states (cc) (omega arith)) c.filter.ensures.closure (λ x r q k. search (rules, tests)))
+    ∙ passing_range graph.lawful graph.states

@@ -1,13 +1,16 @@
-use Rattle.std.proofs.Common.{vec_items}
+use Rattle.std.proofs.Common.{rules}
 use Rattle.std.proofs.lemmas.Bool.Decides.{Decides-at}
-use Rattle.board.specs.Layouts.{layout_of}
+use Rattle.board.specs.Layouts.{layout}
 use Rattle.board.specs.Joining.{are_joined}
 use Rattle.board.specs.Joins.{decides_joined}
 use Rattle.board.proofs.graph.BoardGraph.joined.Goals as goal
 
-pub returns : goal.returns
-returns g c =
-    let b = c.args.self.now in
-    let l = layout_of (g.B.Bank.model b.bank) (vec_items b.rules) in
-    let e = c.are_joined.ensures in
-    record { value = e; decides = Decides-at c.are_joined.result (are_joined l c.args.from c.args.to) e (decides_joined l c.args.from c.args.to) }
+pub returns-then-lawful-clause-decides : goal.returns-then-lawful-clause-decides
+returns-then-lawful-clause-decides g c =
+    let l = layout g.B.Bank.model c.args.self.now in
+    Decides-at _ (are_joined l c.args.from c.args.to) (search rules) (decides_joined l c.args.from c.args.to)
+
+pub returns-else-lawful-clause-decides : goal.returns-else-lawful-clause-decides
+returns-else-lawful-clause-decides g c =
+    let l = layout g.B.Bank.model c.args.self.now in
+    Decides-at _ (are_joined l c.args.from c.args.to) (search rules) (decides_joined l c.args.from c.args.to)
