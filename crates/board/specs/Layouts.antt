@@ -10,7 +10,7 @@
 --   codes        the present code of each part of a bank
 --   encoded      the number of the present codes
 --   present      the state number of a bank's present codes
-use Rattle.std.specs.Prelude.{ℕ, ◌≤◌, Bool, cond, ◌&&◌, List, length, Ok, Err, Result, ◌==◌, nat_le, nat_lt}
+use Rattle.std.specs.Prelude.{ℕ, ◌≤◌, Bool, cond, ◌&&◌, List, length, Option, Ok, Err, Result, ◌==◌, nat_le, nat_lt}
 use Rattle.std.specs.List.{list_all, AllByRecursion}
 use Rattle.std.specs.Result.{result_unwrap_or}
 use Rattle.std.specs.Vec.{vec_items}
@@ -27,7 +27,7 @@ use Rattle.board.specs.declared.Board.{Board}
 -- what no write changes
 pub record Layout : Type 0 where
   pub parts : ℕ
-  pub kind : ℕ → Kind
+  pub kind : ℕ → Option Kind
   pub count : ℕ → ℕ
   pub level : ℕ → ℕ → ℕ
   pub linked : ℕ → ℕ → ℕ → Bool

@@ -20,7 +20,7 @@ pub record Flawless (l : Layout) : Type 0 where
   pub whole : NoDefect l
 
 -- the test of all names
-decides_named : (kind : ℕ → Kind) (rules : List Rule) → Decides (list_all (names_ok kind) rules) (AllByRecursion (Names kind) rules)
+decides_named : (kind : ℕ → Option Kind) (rules : List Rule) → Decides (list_all (names_ok kind) rules) (AllByRecursion (Names kind) rules)
 decides_named kind rules = Decides-by_and (names_ok kind) (Names kind) (list_all (names_ok kind)) (λ r. (named kind r, names kind r)) refl (λ _ _. refl) rules
 
 -- a layout with a defect
