@@ -1,7 +1,6 @@
 -- A board as no write changes it: a bank's parts with their codes, levels and one-write relations, and the rules.
 --   Layout       the parts and the rules
 --   layout_of    the layout of a bank under some rules
---   layout       the layout of a board over any bank
 --   NoDefect     what a board without a defect has
 --   verdict_of   the number of states, or the first defect: 7 no part, 5 too many, 6 a rule that names no fitting part
 --   states_of    the number of states, 0 with a defect
@@ -13,7 +12,6 @@
 use Rattle.std.specs.Prelude.{ℕ, ◌≤◌, Bool, cond, ◌&&◌, List, length, Option, Ok, Err, Result, ◌==◌, nat_le, nat_lt}
 use Rattle.std.specs.List.{list_all, AllByRecursion}
 use Rattle.std.specs.Result.{result_unwrap_or}
-use Rattle.std.specs.Vec.{vec_items}
 use Rattle.answer.specs.Answers.{no_state}
 use Rattle.answer.specs.declared.refusal.Refusal.{Refusal}
 use Rattle.answer.specs.declared.refusal.Refusal.TheVariants.{NoPart, TooMany, WrongPart}
@@ -22,7 +20,6 @@ use Rattle.table.specs.Names.{names_ok, Names}
 use Rattle.table.specs.declared.rule.Rule.{Rule}
 use Rattle.bank.specs.Banks.{BankModel}
 use Rattle.bank.specs.States.{weight, number, digit, counts}
-use Rattle.board.specs.declared.Board.{Board}
 
 -- what no write changes
 pub record Layout : Type 0 where
@@ -43,10 +40,6 @@ layout_of m rules = record {
   linked = λ p a b. (m.device p).linked a b;
   rules = rules;
 }
-
--- the layout of a board, by what its bank means
-abbrev pub layout : {B : Type 0} → (B → BankModel) → Board B → Layout
-layout model board = layout_of (model board.bank) (vec_items board.rules)
 
 -- at most six parts, 24 rules and 4,096 states
 abbrev pub fits : Layout → Bool

@@ -1,9 +1,8 @@
 // A board as a graph: its states, which of them are lawful, and which two are joined.
 ghost use Rattle.std.specs.Prelude.{◌≡◌, Decides};
-ghost use Rattle.board.specs.Boards.{board_graph};
+ghost use Rattle.board.specs.Boards.{board_graph, layout};
 ghost use Rattle.board.specs.Joining.{are_joined, Joined};
 ghost use Rattle.board.specs.Lawfulness.{is_lawful, Lawful};
-ghost use Rattle.board.specs.Layouts.{layout};
 ghost use Rattle.board.specs.Joins.{board_meaning, few_states};
 
 use super::Board;

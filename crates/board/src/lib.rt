@@ -2,6 +2,10 @@
 
 #![tactic(auto)]
 
+ghost use Rattle.std.specs.Prelude.{◌≡◌};
+ghost use Rattle.board.specs.Layouts.{layout_of, verdict_of};
+
+use answer::Refusal;
 use bank::Bank;
 use table::Rule;
 
@@ -19,4 +23,7 @@ pub use change::Change;
 pub struct Board<B: Bank> {
     bank: B,
     rules: Vec<Rule>,
+    // The number of states, or the first defect.
+    verdict: Result<usize, Refusal>,
+    ghost judged: { verdict ≡ verdict_of (layout_of (B.model bank) rules.items) },
 }

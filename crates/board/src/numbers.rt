@@ -2,9 +2,9 @@
 ghost use Rattle.std.specs.Prelude.{◌≡◌, ◌≤◌, ◌↔◌, None};
 ghost use Rattle.std.specs.Result.{result_err};
 ghost use Rattle.bank.specs.States.{number, weight, counts};
-ghost use Rattle.board.specs.Boards.{Numbered, Decoded};
+ghost use Rattle.board.specs.Boards.{Numbered, Decoded, layout};
 ghost use Rattle.board.specs.Joining.{change as change_of};
-ghost use Rattle.board.specs.Layouts.{layout, NoDefect, verdict_of, code_at, encoded, present};
+ghost use Rattle.board.specs.Layouts.{NoDefect, verdict_of, code_at, encoded, present};
 
 use super::Board;
 use super::change::Change;
@@ -19,7 +19,12 @@ impl<B: Bank> Board<B> {
     pub fn new(bank: B, rules: Vec<Rule>) -> Board<B>
         ensures { (result.bank ≡ bank) × (result.rules ≡ rules) }
     {
-        Board { bank, rules }
+        let verdict = judge(&bank, &rules);
+        Board {
+            bank,
+            rules,
+            verdict,
+        }
     }
 
     // The bank, for its questions.
@@ -40,7 +45,7 @@ impl<B: Bank> Board<B> {
     pub(crate) fn verdict(&self) -> Result<usize, Refusal>
         ensures { result ≡ verdict_of (layout B.model self.now) }
     {
-        judge(&self.bank, &self.rules)
+        self.verdict
     }
 
     // The first defect of the board: 7, 5 or 6, or none.

@@ -3,7 +3,8 @@ ghost use Rattle.std.specs.Prelude.{◌≡◌};
 ghost use Rattle.std.specs.List.{list_all};
 ghost use Rattle.board.specs.Joining.{allows as allows_by, adjacent as adjacent_by};
 ghost use Rattle.board.specs.Lawfulness.{holds as holds_in};
-ghost use Rattle.board.specs.Layouts.{layout, level_at};
+ghost use Rattle.board.specs.Boards.{layout};
+ghost use Rattle.board.specs.Layouts.{level_at};
 
 use super::Board;
 use super::change::Change;

@@ -2,7 +2,7 @@ use Rattle.std.proofs.Common.{◌/◌, ◌%◌, vec_items, sym, ◌∙◌, ap₂
 use Rattle.std.proofs.lemmas.Iterator.{YieldsList-from_range}
 use Rattle.std.proofs.lemmas.Iterator.Consumers.{fold_from_yields_List}
 use Rattle.bank.specs.States.{counts}
-use Rattle.board.specs.Layouts.{layout}
+use Rattle.board.specs.Boards.{layout}
 use Rattle.board.specs.Numbering.{code_there, decoded, rest_past}
 use Rattle.board.proofs.Board.code_at.Goals as goal
 

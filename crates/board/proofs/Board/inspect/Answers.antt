@@ -1,5 +1,5 @@
 use Rattle.std.proofs.Common.{rules}
-use Rattle.board.specs.Layouts.{layout}
+use Rattle.board.specs.Boards.{layout}
 use Rattle.board.specs.Verdicts.{finds_none}
 use Rattle.board.proofs.Board.inspect.Goals as goal
 

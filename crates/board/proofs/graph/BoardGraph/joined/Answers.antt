@@ -1,6 +1,6 @@
 use Rattle.std.proofs.Common.{rules}
 use Rattle.std.proofs.lemmas.Bool.Decides.{Decides-at}
-use Rattle.board.specs.Layouts.{layout}
+use Rattle.board.specs.Boards.{layout}
 use Rattle.board.specs.Joining.{are_joined}
 use Rattle.board.specs.Joins.{decides_joined}
 use Rattle.board.proofs.graph.BoardGraph.joined.Goals as goal

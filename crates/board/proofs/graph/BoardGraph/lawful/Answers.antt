@@ -1,6 +1,6 @@
 use Rattle.std.proofs.Common.{rules}
 use Rattle.std.proofs.lemmas.Bool.Decides.{Decides-at}
-use Rattle.board.specs.Layouts.{layout}
+use Rattle.board.specs.Boards.{layout}
 use Rattle.board.specs.Lawfulness.{is_lawful}
 use Rattle.board.specs.Deciding.{decides_lawful}
 use Rattle.board.proofs.graph.BoardGraph.lawful.Goals as goal
