@@ -13,8 +13,8 @@ pub use refusal::Refusal;
 // The number of a board's state.
 pub type State = u16;
 
-// The state number that stands for no state.
+// The state number that stands for no state. No `Option`: states stand in buffers that callers lend, two bytes each.
 pub const NONE: State = 65_535;
 
-// What stands outside for the part of a fault that names no part.
+// What stands outside for the part of a fault that names no part: outside, a part is one byte.
 pub const NO_PART: u8 = 255;

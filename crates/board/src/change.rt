@@ -2,6 +2,7 @@
 ghost use Rattle.std.specs.Prelude.{◌≡◌, if◌then◌else◌};
 ghost use Rattle.board.specs.Joining.{beside};
 
+// Three answers: an `Option` of a part would not tell none from several.
 #[derive(Clone, Copy, Debug, PartialEq, Eq)]
 pub enum Change {
     // In no part.

@@ -18,6 +18,7 @@ fn all_named<B: Bank>(bank: &B, rules: &[Rule]) -> bool
 }
 
 // The number of states, or the first defect: no part, too many parts, rules or states, a rule that fits no part.
+// The bank and the rules by themselves: a board is made with what is judged here.
 pub(crate) fn judge<B: Bank>(bank: &B, rules: &[Rule]) -> Result<usize, Refusal>
     ensures { result ≡ verdict_of (layout_of (B.model bank.now) rules.now) }
 {

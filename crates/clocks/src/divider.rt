@@ -66,6 +66,7 @@ impl Device for DividerClock {
         self.register.tally()
     }
 
+    // In each kind: which writes there are is its own, what a write does is the register's, and a trait has no fields.
     fn write(&mut self, code: Code) -> Answer
         ensures written { Written (divider_model self.old) code result (divider_model self.new) }
         ensures willing { Willing (divider_model self.old) code result }

@@ -71,6 +71,7 @@ impl Device for TreeClock {
         self.register.tally()
     }
 
+    // In each kind: which writes there are is its own, what a write does is the register's, and a trait has no fields.
     fn write(&mut self, code: Code) -> Answer
         ensures written { Written (tree_model self.old) code result (tree_model self.new) }
         ensures willing { Willing (tree_model self.old) code result }

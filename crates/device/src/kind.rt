@@ -12,7 +12,7 @@ pub enum Kind {
     Clock = 1,
 }
 
-// The number of a part's kind outside where there is no such part.
+// What stands outside for the kind of an absent part: outside, a kind is one byte.
 const ABSENT: u8 = 2;
 
 impl Kind {

@@ -4,6 +4,8 @@ ghost use Rattle.device.specs.Figures.{from_to, level_ok, levels_ok, linear, div
 
 use super::{Code, MOST_CODES, MOST_DIVISORS, TOP_LEVEL};
 
+// Three ranges have a test each, of one call: a generic test would take the bound, which is what their names say.
+
 // A level, a parent's rate or a step: 1 to 5,000,000.
 pub fn is_level(level: u32) -> bool
     ensures { result ≡ level_ok level }

@@ -4,6 +4,7 @@ ghost use Rattle.device.specs.Device.{counted_on};
 
 #[derive(Drop)]
 pub struct Tallies {
+    // An array, since a list would have to be allocated.
     counts: [u64; 32],
     ghost counted: { (p : ℕ) → slice_index counts p < 2 ^ 64 },
 }
@@ -28,6 +29,7 @@ impl Tallies {
         ensures { self.new.counts ≡ slice_set self.old.counts part (counted_on (slice_index self.old.counts part)) }
     {
         let place = usize::from(part);
+        // No `get_mut`: the library tells nothing of an array's elements once its borrow ends.
         if place < self.counts.len() {
             self.counts[place] = self.counts[place].saturating_add(1);
         }

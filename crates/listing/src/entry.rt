@@ -14,6 +14,7 @@ use std::alloc::Global;
 use table::bytes::words;
 use table::{Record, Rule};
 
+// One of the two, and neither is an error: no `Result`.
 #[derive(Drop)]
 pub(crate) enum Entry {
     Part(Part),

@@ -1,4 +1,5 @@
-// A part of a board: one of the supplied devices.
+// A part of a board: one of the supplied devices. A table has these kinds and no other, so a question is a `match` and no
+// call through `dyn`, which would want a box for each part.
 ghost use Rattle.std.specs.Prelude.{◌≡◌, nat_lt};
 ghost use Rattle.device.specs.Device.{Written, Willing, set_on};
 ghost use Rattle.device.specs.Figures.{kind_of};

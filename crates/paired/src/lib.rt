@@ -10,7 +10,7 @@ ghost use Rattle.paired.specs.Places.{Stands};
 use bank::{Bank, MOST_SHOWN};
 use device::{Answer, Code, Kind};
 
-// Which bank of a pair has a part, and the part's number there.
+// Which bank of a pair has a part, and the part's number there: one of the two, and neither is an error, so no `Result`.
 #[derive(Clone, Copy, Debug, PartialEq, Eq)]
 enum Place {
     First(u8),
@@ -31,7 +31,8 @@ impl<A: Bank, B: Bank> Pair<A, B> {
         Pair { first, second }
     }
 
-    // Where a part stands, none past those that are shown.
+    // Where a part stands, none past those that are shown. The two banks have two types, so each question tells the three
+    // cases apart; no closure serves both.
     fn place(&self, part: u8) -> Option<Place>
         ensures { Stands (A.Bank.model self.now.first) part result }
     {

@@ -65,6 +65,7 @@ impl Device for LinearRail {
         self.register.tally()
     }
 
+    // In each kind: which writes there are is its own, what a write does is the register's, and a trait has no fields.
     fn write(&mut self, code: Code) -> Answer
         ensures written { Written (linear_model self.old) code result (linear_model self.new) }
         ensures willing { Willing (linear_model self.old) code result }

@@ -62,6 +62,7 @@ impl Device for TableRail {
         self.register.tally()
     }
 
+    // In each kind: which writes there are is its own, what a write does is the register's, and a trait has no fields.
     fn write(&mut self, code: Code) -> Answer
         ensures written { Written (table_model self.old) code result (table_model self.new) }
         ensures willing { Willing (table_model self.old) code result }

@@ -30,6 +30,7 @@ mod tests {
         let (bank, rules) = Listed::read(heap, table)?;
         let board = Board::new(bank, rules);
         assert_eq!(rt; board.states(), states);
+        // Counted by hand, beside the assertions on each state and each pair.
         let mut good = 0usize;
         let mut pairs = 0usize;
         for from in 0..1_000u16 {
@@ -49,6 +50,7 @@ mod tests {
         Ok(())
     }
 
+    // A test takes no table: a function for each board.
     #[test]
     fn worked_board(rt: HostRuntime) -> Result<(), Fail> {
         compare(

@@ -24,7 +24,7 @@ fn has<K: Kinds>(parts: &K, part: u8, kind: Kind) -> bool
 }
 
 impl Rule {
-    // Whether the rule names rails and clocks that are there, and no rail twice.
+    // Whether the rule names rails and clocks that are there, and no rail twice: each sort of rule has parts of its own.
     pub fn names<K: Kinds>(&self, parts: &K) -> bool
         ensures { result ≡ names_ok (K.Kinds.kinds parts.now) self.now }
     {

@@ -7,7 +7,7 @@ pub mod start;
 #[derive(Drop)]
 pub struct Reader<'a> {
     table: &'a [u8],
-    // The cursor: where the next record begins.
+    // The cursor: where the next record begins. It is told as a record's offset, which the rest of a slice does not know.
     at: usize,
     // How many records were read.
     number: usize,

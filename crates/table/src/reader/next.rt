@@ -8,7 +8,8 @@ use super::Reader;
 use answer::Fault;
 
 impl<'a> Reader<'a> {
-    // The next record, none at the end, or the fault that it has; a fault leaves the reader where it is.
+    // The next record, none at the end, or the fault that it has; a fault leaves the reader where it is. No `Iterator`: at a
+    // fault it would have no end.
     pub fn next(&mut self) -> Result<Option<Placed<'a>>, Fault>
         ensures bytes { self.new.table.now ≡ self.old.table.now }
         ensures read { Next self.old.table.now self.old.number self.old.at result self.new.number self.new.at }
