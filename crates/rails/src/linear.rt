@@ -65,7 +65,8 @@ impl Device for LinearRail {
         self.register.tally()
     }
 
-    // In each kind: which writes there are is its own, what a write does is the register's, and a trait has no fields.
+    // As in each kind: which writes there are is its own, what a write does is the register's. One struct over the four kinds
+    // would take a trait for what they differ in, a second one for rails and for clocks, and save such lines alone.
     fn write(&mut self, code: Code) -> Answer
         ensures written { Written (linear_model self.old) code result (linear_model self.new) }
         ensures willing { Willing (linear_model self.old) code result }
