@@ -13,7 +13,7 @@ struct PartKinds<'a, B: Bank> {
 }
 
 impl<'a, B: Bank> Kinds for PartKinds<'a, B> {
-    ghost kinds = { λ k. (B.Bank.model k.bank.now).kind };
+    ghost kinds = { λ k. (B.model k.bank.now).kind };
 
     fn kind_of(&self, part: u8) -> Option<Kind> {
         self.bank.kind(part)
@@ -22,7 +22,7 @@ impl<'a, B: Bank> Kinds for PartKinds<'a, B> {
 
 // Whether a rule names rails and clocks that the bank has, and no rail twice.
 pub fn fits_rule<B: Bank>(bank: &B, rule: &Rule) -> bool
-    ensures { result ≡ names_ok (B.Bank.model bank.now).kind rule.now }
+    ensures { result ≡ names_ok (B.model bank.now).kind rule.now }
 {
     rule.names(&PartKinds { bank })
 }

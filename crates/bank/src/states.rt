@@ -8,7 +8,7 @@ use table::MOST_STATES;
 // The product of the counts, or none past the most states that a board may have: it goes no further than the part
 // where it passes that.
 pub fn product<B: Bank>(bank: &B) -> Option<usize>
-    ensures { result ≡ (if nat_le (weight (counts (B.Bank.model bank.now)) (B.Bank.model bank.now).parts) 4096 then Some (weight (counts (B.Bank.model bank.now)) (B.Bank.model bank.now).parts) else None) }
+    ensures { let m = B.model bank.now in let n = weight (counts m) m.parts in result ≡ (if nat_le n 4096 then Some n else None) }
 {
     let mut states = 1;
     'parts: for part in 0..bank.parts() {

@@ -28,16 +28,16 @@ impl<C: Clock> CappedClock<C> {
 }
 
 impl<C: Clock> Graph for CappedClock<C> {
-    ghost model = { λ g. clock_graph (C.Clock.model g.clock) g.«cap» };
+    ghost model = { λ g. clock_graph (C.model g.clock) g.«cap» };
 
     ghost meaning = { λ x.
-        let d = C.Clock.model x.clock in
-        let sound = C.Clock.sound x.clock in
+        let d = C.model x.clock in
+        let sound = C.sound x.clock in
         guarded d.count (under_cap d x.«cap») d.linked (omega (arith, sound.few))
         (λ s h. ltb-true s d.count (and_parts (nat_lt s d.count) (nat_le (d.level s) x.«cap») h).0)
         sound.symmetric sound.different };
 
-    ghost few = { λ x. omega (arith, (C.Clock.sound x.clock).few) };
+    ghost few = { λ x. omega (arith, (C.sound x.clock).few) };
 
     fn states(&self) -> usize {
         usize::from(self.clock.count())

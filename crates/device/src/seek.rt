@@ -7,8 +7,8 @@ use super::devices::Regulator;
 
 // The lowest code of the lowest level from low to high, both included; none where no level lies there.
 pub fn seek<R: Regulator>(rail: &R, low: u32, high: u32) -> Option<Code>
-    ensures found { Sought (R.Device.model rail.now) low high result }
-    ensures returns { RoundTrip (R.Device.model rail.now) low high result }
+    ensures found { Sought (R.model rail.now) low high result }
+    ensures returns { RoundTrip (R.model rail.now) low high result }
 {
     let mut best = None;
     for code in 0..rail.count() {
@@ -25,7 +25,7 @@ fn better<R: Regulator>(
     best: Option<Code>,
     code: Code,
 ) -> Option<Code>
-    ensures { Found code (R.Device.model rail.now).level low high best → Found (code + 1) (R.Device.model rail.now).level low high result }
+    ensures { Found code (R.model rail.now).level low high best → Found (code + 1) (R.model rail.now).level low high result }
 {
     let level = rail.level(code);
     if level < low || level > high {

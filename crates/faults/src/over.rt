@@ -50,9 +50,9 @@ impl<B: Bank + Drop> Faulting<B> {
 }
 
 impl<B: Bank> Bank for Faulting<B> {
-    ghost model = { λ f. faulty (B.Bank.model f.bank) f.tallies.counts };
+    ghost model = { λ f. faulty (B.model f.bank) f.tallies.counts };
 
-    ghost sound = { λ x. faulty_sound (B.Bank.model x.bank) x.tallies.counts x.tallies.counted (B.Bank.sound x.bank) };
+    ghost sound = { λ x. faulty_sound (B.model x.bank) x.tallies.counts x.tallies.counted (B.sound x.bank) };
 
     fn parts(&self) -> u8 {
         self.bank.parts()
@@ -88,8 +88,8 @@ impl<B: Bank> Bank for Faulting<B> {
 
     // Where there is such a write, it is counted, and the next outcome says what is asked of the bank below.
     fn write(&mut self, part: u8, code: Code) -> Answer
-        ensures written { Written (faulty (B.Bank.model self.old.bank) self.old.tallies.counts) part code result (faulty (B.Bank.model self.new.bank) self.new.tallies.counts) }
-        ensures used { Used (B.Bank.model self.old.bank) self.old.outcomes.items part code result (B.Bank.model self.new.bank) self.new.outcomes.items }
+        ensures written { Written (faulty (B.model self.old.bank) self.old.tallies.counts) part code result (faulty (B.model self.new.bank) self.new.tallies.counts) }
+        ensures used { Used (B.model self.old.bank) self.old.outcomes.items part code result (B.model self.new.bank) self.new.outcomes.items }
     {
         if !self.bank.linked(part, self.bank.code(part), code) {
             return Answer::NoSuchWrite;

@@ -24,7 +24,7 @@ impl<D: Device> OnePart<D> {
 }
 
 impl<D: Device> Bank for OnePart<D> {
-    ghost model = { λ b. one_part D.KIND (D.Device.model b.device) };
+    ghost model = { λ b. one_part D.KIND (D.model b.device) };
 
     ghost sound = { Prim.search rules };
 

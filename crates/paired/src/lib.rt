@@ -34,7 +34,7 @@ impl<A: Bank, B: Bank> Pair<A, B> {
     // Where a part stands, none past those that are shown. The two banks have two types, so each question tells the three
     // cases apart; no closure serves both.
     fn place(&self, part: u8) -> Option<Place>
-        ensures { Stands (A.Bank.model self.now.first) part result }
+        ensures { Stands (A.model self.now.first) part result }
     {
         let shift = self.first.parts();
         if part >= MOST_SHOWN {
@@ -48,9 +48,9 @@ impl<A: Bank, B: Bank> Pair<A, B> {
 }
 
 impl<A: Bank, B: Bank> Bank for Pair<A, B> {
-    ghost model = { λ b. pair_of (A.Bank.model b.first) (B.Bank.model b.second) };
+    ghost model = { λ b. pair_of (A.model b.first) (B.model b.second) };
 
-    ghost sound = { λ x. pair_sound (A.Bank.model x.first) (B.Bank.model x.second) (A.Bank.sound x.first) (B.Bank.sound x.second) };
+    ghost sound = { λ x. pair_sound (A.model x.first) (B.model x.second) (A.sound x.first) (B.sound x.second) };
 
     fn parts(&self) -> u8 {
         let all = self.first.parts() + self.second.parts();

@@ -30,7 +30,7 @@ pub trait Graph {
 
 // How many states of a graph are lawful.
 pub fn count_lawful<G: Graph>(graph: &G) -> usize
-    ensures { result ≡ passing (G.Graph.model graph.now).lawful (G.Graph.model graph.now).states }
+    ensures { result ≡ passing (G.model graph.now).lawful (G.model graph.now).states }
 {
     (0..graph.states() as State)
         .filter(|state| graph.lawful(*state))
@@ -39,7 +39,7 @@ pub fn count_lawful<G: Graph>(graph: &G) -> usize
 
 // How many states are joined to a state.
 pub fn count_joined<G: Graph>(graph: &G, from: State) -> usize
-    ensures { result ≡ passing ((G.Graph.model graph.now).joined from) (G.Graph.model graph.now).states }
+    ensures { result ≡ passing ((G.model graph.now).joined from) (G.model graph.now).states }
 {
     (0..graph.states() as State)
         .filter(|state| graph.joined(from, *state))

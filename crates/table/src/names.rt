@@ -18,7 +18,7 @@ pub trait Kinds {
 
 // Whether the part of this number is there and of this kind.
 fn has<K: Kinds>(parts: &K, part: u8, kind: Kind) -> bool
-    ensures { result ≡ is_of kind (K.Kinds.kinds parts.now part) }
+    ensures { result ≡ is_of kind (K.kinds parts.now part) }
 {
     parts.kind_of(part) == Some(kind)
 }
@@ -26,7 +26,7 @@ fn has<K: Kinds>(parts: &K, part: u8, kind: Kind) -> bool
 impl Rule {
     // Whether the rule names rails and clocks that are there, and no rail twice: each sort of rule has parts of its own.
     pub fn names<K: Kinds>(&self, parts: &K) -> bool
-        ensures { result ≡ names_ok (K.Kinds.kinds parts.now) self.now }
+        ensures { result ≡ names_ok (K.kinds parts.now) self.now }
     {
         match self {
             Rule::Window { rail, .. } | Rule::Step { rail, .. } => has(parts, *rail, Kind::Rail),
