@@ -9,6 +9,7 @@ ghost use Rattle.listing.specs.Lists.{listing as listed};
 
 use super::line::Line;
 use answer::{Fault, Refusal};
+use device::Device;
 use listing::{Listing, Part};
 use std::alloc::{AllocError, Global};
 

@@ -34,13 +34,15 @@ impl DividerClock {
 impl Device for DividerClock {
     ghost model = { divider_model };
 
-    ghost KIND = { Clock };
-
-    const KIND: Kind = Kind::Clock;
+    ghost kind = { λ _. Clock };
 
     ghost sound = { divider_sound };
 
-    ghost free = { λ e. absurd (clock_no_rail e) };
+    ghost free = { λ _ _ _ e. absurd (clock_no_rail e) };
+
+    fn kind(&self) -> Kind {
+        Kind::Clock
+    }
 
     fn count(&self) -> Code {
         self.count
@@ -69,6 +71,7 @@ impl Device for DividerClock {
     // As in each kind: which writes there are is its own, what a write does is the register's. One struct over the four kinds
     // would take a trait for what they differ in, a second one for rails and for clocks, and save such lines alone.
     fn write(&mut self, code: Code) -> Answer
+        ensures kind { Clock ≡ Clock }
         ensures written { Written (divider_model self.old) code result (divider_model self.new) }
         ensures willing { Willing (divider_model self.old) code result }
     {
@@ -78,7 +81,7 @@ impl Device for DividerClock {
 }
 
 impl Clock for DividerClock {
-    ghost clock = { refl };
+    ghost clock = { λ _. refl };
 }
 
 impl Supplied for DividerClock {

@@ -37,13 +37,15 @@ impl TreeClock {
 impl Device for TreeClock {
     ghost model = { tree_model };
 
-    ghost KIND = { Clock };
-
-    const KIND: Kind = Kind::Clock;
+    ghost kind = { λ _. Clock };
 
     ghost sound = { tree_sound };
 
-    ghost free = { λ e. absurd (clock_no_rail e) };
+    ghost free = { λ _ _ _ e. absurd (clock_no_rail e) };
+
+    fn kind(&self) -> Kind {
+        Kind::Clock
+    }
 
     fn count(&self) -> Code {
         self.parents.len() as Code * self.divisors
@@ -74,6 +76,7 @@ impl Device for TreeClock {
     // As in each kind: which writes there are is its own, what a write does is the register's. One struct over the four kinds
     // would take a trait for what they differ in, a second one for rails and for clocks, and save such lines alone.
     fn write(&mut self, code: Code) -> Answer
+        ensures kind { Clock ≡ Clock }
         ensures written { Written (tree_model self.old) code result (tree_model self.new) }
         ensures willing { Willing (tree_model self.old) code result }
     {
@@ -83,7 +86,7 @@ impl Device for TreeClock {
 }
 
 impl Clock for TreeClock {
-    ghost clock = { refl };
+    ghost clock = { λ _. refl };
 }
 
 impl Supplied for TreeClock {

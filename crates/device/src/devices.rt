@@ -14,9 +14,10 @@ pub trait Device {
     ghost model: { Self → DeviceModel };
 
     // Whether it is a regulator of a rail or a clock.
-    ghost KIND: { PartKind };
+    ghost kind: { Self → PartKind };
 
-    const KIND: Kind;
+    fn kind(&self) -> Kind
+        ensures { result ≡ kind self.now };
 
     // How many codes there are.
     fn count(&self) -> Code
@@ -38,24 +39,25 @@ pub trait Device {
     fn tally(&self) -> u64
         ensures { result ≡ (model self.now).tally };
 
-    // Asks for a write of a code.
+    // Asks for a write of a code. The kind stays.
     fn write(&mut self, code: Code) -> Answer
-        ensures { Written (model self.old) code result (model self.new) };
+        ensures kind { kind self.new ≡ kind self.old }
+        ensures written { Written (model self.old) code result (model self.new) };
 
     ghost sound: { (x : Self) → Sound (model x) };
 
     // On a rail one write joins any two different codes.
-    ghost free: { KIND ≡ Rail → (x : Self) (a b : ℕ) → (model x).linked a b ≡ any_two (model x).count a b };
+    ghost free: { (x : Self) (a b : ℕ) → kind x ≡ Rail → (model x).linked a b ≡ any_two (model x).count a b };
 }
 
 // A regulator of a voltage rail.
 pub trait Regulator: Device {
-    ghost rail: { Self.KIND ≡ Rail };
+    ghost rail: { (x : Self) → Self.kind x ≡ Rail };
 }
 
 // A clock.
 pub trait Clock: Device {
-    ghost clock: { Self.KIND ≡ Clock };
+    ghost clock: { (x : Self) → Self.kind x ≡ Clock };
 }
 
 // Whether two codes are different and both below the number of codes: on a rail one write joins any two such.

@@ -6,8 +6,10 @@ use super::Code;
 use super::devices::Device;
 
 pub trait Supplied: Device {
-    // Puts the device on a code that it has, without a write: the tally stays. An absent code is no, and changes nothing.
+    // Puts the device on a code that it has, without a write: the tally stays. An absent code is no, and changes nothing;
+    // it is the one cause, so there is no error to name. The kind stays.
     fn set(&mut self, code: Code) -> bool
+        ensures kind { Self.kind self.new ≡ Self.kind self.old }
         ensures has { result ≡ nat_lt code (Self.model self.old).count }
         ensures put { Self.model self.new ≡ set_on (Self.model self.old) code };
 }

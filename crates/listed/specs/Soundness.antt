@@ -11,7 +11,7 @@ use Rattle.device.specs.declared.kind.Kind.{Kind}
 use Rattle.device.specs.declared.kind.Kind.TheVariants.{Rail}
 use Rattle.listing.specs.Parts.{part_figures, part_model}
 use Rattle.listing.specs.declared.part.Part.{Part}
-use Rattle.listing.proofs.PartDevices.{part_sound, rail_free}
+use Rattle.listing.specs.Sounds.{part_sound, rail_free}
 use Rattle.bank.specs.Banks.{Sound}
 use Rattle.listed.specs.Figured.{at_or}
 use Rattle.listed.specs.Listing.{bank_from}

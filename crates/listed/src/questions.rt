@@ -5,7 +5,7 @@ ghost use Rattle.listed.specs.Soundness.{listed_sound};
 
 use super::Listed;
 use bank::Bank;
-use device::{Answer, Code, Kind};
+use device::{Answer, Code, Device, Kind};
 use listing::Part;
 
 impl Listed {

@@ -9,6 +9,7 @@ use super::Listed;
 use answer::{Fault, Refusal, State};
 use bank::Bank;
 use bank::states::product;
+use device::{Device, Supplied};
 use table::MOST_PARTS;
 
 impl Listed {

@@ -9,7 +9,7 @@ ghost use Rattle.listing.specs.Lists.{admit_part, admit_rule, kind_at};
 use super::Listing;
 use super::part::Part;
 use answer::{Fault, Refusal};
-use device::Kind;
+use device::{Device, Kind};
 use table::{Kinds, MOST_PARTS, MOST_RULES, MOST_STATES, Rule};
 
 impl Kinds for Listing {

@@ -1,9 +1,10 @@
 // A part of a board: one of the supplied devices. A table has these kinds and no other, so a question is a `match` and no
 // call through `dyn`, which would want a box for each part.
-ghost use Rattle.std.specs.Prelude.{◌≡◌, nat_lt};
-ghost use Rattle.device.specs.Device.{Written, Willing, set_on};
+ghost use Rattle.std.specs.Prelude.{◌≡◌};
+ghost use Rattle.device.specs.Device.{Written, Willing};
 ghost use Rattle.device.specs.Figures.{kind_of};
 ghost use Rattle.listing.specs.Parts.{part_figures, part_model};
+ghost use Rattle.listing.specs.Sounds.{part_sound, rail_free};
 
 use clocks::{DividerClock, TreeClock};
 use device::{Answer, Code, Device, Kind, Supplied};
@@ -17,21 +18,23 @@ pub enum Part {
     Tree(TreeClock),
 }
 
-impl Part {
-    // Whether the part is a rail or a clock.
-    pub fn kind(&self) -> Kind
-        ensures { result ≡ kind_of (part_figures self.now) }
-    {
+impl Device for Part {
+    ghost model = { part_model };
+
+    ghost kind = { λ p. kind_of (part_figures p) };
+
+    ghost sound = { part_sound };
+
+    ghost free = { rail_free };
+
+    fn kind(&self) -> Kind {
         match self {
             Part::Linear(_) | Part::Listed(_) => Kind::Rail,
             Part::Divider(_) | Part::Tree(_) => Kind::Clock,
         }
     }
 
-    // How many codes the part has.
-    pub fn count(&self) -> Code
-        ensures { result ≡ (part_model self.now).count }
-    {
+    fn count(&self) -> Code {
         match self {
             Part::Linear(rail) => rail.count(),
             Part::Listed(rail) => rail.count(),
@@ -40,10 +43,7 @@ impl Part {
         }
     }
 
-    // The level of a code in µV or kHz, 0 for an absent one.
-    pub fn level(&self, code: Code) -> u32
-        ensures { result ≡ (part_model self.now).level code }
-    {
+    fn level(&self, code: Code) -> u32 {
         match self {
             Part::Linear(rail) => rail.level(code),
             Part::Listed(rail) => rail.level(code),
@@ -52,10 +52,7 @@ impl Part {
         }
     }
 
-    // Whether one write joins the two codes.
-    pub fn linked(&self, from: Code, to: Code) -> bool
-        ensures { result ≡ (part_model self.now).linked from to }
-    {
+    fn linked(&self, from: Code, to: Code) -> bool {
         match self {
             Part::Linear(rail) => rail.linked(from, to),
             Part::Listed(rail) => rail.linked(from, to),
@@ -64,10 +61,7 @@ impl Part {
         }
     }
 
-    // The present code.
-    pub fn code(&self) -> Code
-        ensures { result ≡ (part_model self.now).code }
-    {
+    fn code(&self) -> Code {
         match self {
             Part::Linear(rail) => rail.code(),
             Part::Listed(rail) => rail.code(),
@@ -76,10 +70,7 @@ impl Part {
         }
     }
 
-    // How many writes were asked for.
-    pub fn tally(&self) -> u64
-        ensures { result ≡ (part_model self.now).tally }
-    {
+    fn tally(&self) -> u64 {
         match self {
             Part::Linear(rail) => rail.tally(),
             Part::Listed(rail) => rail.tally(),
@@ -88,8 +79,8 @@ impl Part {
         }
     }
 
-    // Asks for a write of a code. It is done wherever there is such a write.
-    pub fn write(&mut self, code: Code) -> Answer
+    // It is done wherever there is such a write.
+    fn write(&mut self, code: Code) -> Answer
         ensures kind { kind_of (part_figures self.new) ≡ kind_of (part_figures self.old) }
         ensures written { Written (part_model self.old) code result (part_model self.new) }
         ensures willing { Willing (part_model self.old) code result }
@@ -101,13 +92,10 @@ impl Part {
             Part::Tree(clock) => clock.write(code),
         }
     }
+}
 
-    // Puts the part on a code that it has, without a write. An absent code is no, and changes nothing.
-    pub fn set(&mut self, code: Code) -> bool
-        ensures kind { kind_of (part_figures self.new) ≡ kind_of (part_figures self.old) }
-        ensures has { result ≡ nat_lt code (part_model self.old).count }
-        ensures put { part_model self.new ≡ set_on (part_model self.old) code }
-    {
+impl Supplied for Part {
+    fn set(&mut self, code: Code) -> bool {
         match self {
             Part::Linear(rail) => rail.set(code),
             Part::Listed(rail) => rail.set(code),

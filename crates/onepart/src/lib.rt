@@ -24,7 +24,7 @@ impl<D: Device> OnePart<D> {
 }
 
 impl<D: Device> Bank for OnePart<D> {
-    ghost model = { λ b. one_part D.KIND (D.model b.device) };
+    ghost model = { λ b. one_part (D.kind b.device) (D.model b.device) };
 
     ghost sound = { Prim.search rules };
 
@@ -33,7 +33,7 @@ impl<D: Device> Bank for OnePart<D> {
     }
 
     fn kind(&self, part: u8) -> Option<Kind> {
-        if part == 0 { Some(D::KIND) } else { None }
+        if part == 0 { Some(self.device.kind()) } else { None }
     }
 
     fn count(&self, part: u8) -> Code {

@@ -33,13 +33,15 @@ impl LinearRail {
 impl Device for LinearRail {
     ghost model = { linear_model };
 
-    ghost KIND = { Rail };
-
-    const KIND: Kind = Kind::Rail;
+    ghost kind = { λ _. Rail };
 
     ghost sound = { linear_sound };
 
     ghost free = { λ _ _ _ _. refl };
+
+    fn kind(&self) -> Kind {
+        Kind::Rail
+    }
 
     fn count(&self) -> Code {
         self.count
@@ -68,6 +70,7 @@ impl Device for LinearRail {
     // As in each kind: which writes there are is its own, what a write does is the register's. One struct over the four kinds
     // would take a trait for what they differ in, a second one for rails and for clocks, and save such lines alone.
     fn write(&mut self, code: Code) -> Answer
+        ensures kind { Rail ≡ Rail }
         ensures written { Written (linear_model self.old) code result (linear_model self.new) }
         ensures willing { Willing (linear_model self.old) code result }
     {
@@ -77,7 +80,7 @@ impl Device for LinearRail {
 }
 
 impl Regulator for LinearRail {
-    ghost rail = { refl };
+    ghost rail = { λ _. refl };
 }
 
 impl Supplied for LinearRail {

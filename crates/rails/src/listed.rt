@@ -34,13 +34,15 @@ impl TableRail {
 impl Device for TableRail {
     ghost model = { table_model };
 
-    ghost KIND = { Rail };
-
-    const KIND: Kind = Kind::Rail;
+    ghost kind = { λ _. Rail };
 
     ghost sound = { table_sound };
 
     ghost free = { λ _ _ _ _. refl };
+
+    fn kind(&self) -> Kind {
+        Kind::Rail
+    }
 
     fn count(&self) -> Code {
         self.levels.len() as Code
@@ -65,6 +67,7 @@ impl Device for TableRail {
     // As in each kind: which writes there are is its own, what a write does is the register's. One struct over the four kinds
     // would take a trait for what they differ in, a second one for rails and for clocks, and save such lines alone.
     fn write(&mut self, code: Code) -> Answer
+        ensures kind { Rail ≡ Rail }
         ensures written { Written (table_model self.old) code result (table_model self.new) }
         ensures willing { Willing (table_model self.old) code result }
     {
@@ -74,7 +77,7 @@ impl Device for TableRail {
 }
 
 impl Regulator for TableRail {
-    ghost rail = { refl };
+    ghost rail = { λ _. refl };
 }
 
 impl Supplied for TableRail {

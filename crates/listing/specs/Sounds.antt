@@ -1,5 +1,5 @@
--- A listed part keeps what every device keeps.
-use Rattle.std.proofs.Common.{◌≡◌, ℕ, refl}
+-- A part keeps what every device keeps.
+use Rattle.std.specs.Prelude.{◌≡◌, ℕ, refl}
 use Rattle.device.specs.Device.{Sound, any_two}
 use Rattle.device.specs.Figures.{kind_of}
 use Rattle.device.specs.Kinds.{clock_no_rail}
