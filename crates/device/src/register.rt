@@ -55,6 +55,7 @@ impl Register {
             tally: self.tally,
         };
     }
+
     // Answers a write of a code: done and counted where there is such a write, else nothing changes.
     pub fn write(&mut self, exists: bool, code: Code) -> Answer
         ensures answer { result ≡ (if exists then Done else NoSuchWrite) }

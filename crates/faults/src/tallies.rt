@@ -19,19 +19,18 @@ impl Tallies {
 
     // How many writes to a part were counted.
     pub(crate) fn of(&self, part: u8) -> u64
+        requires { part < 32 }
         ensures { result ≡ slice_index self.now.counts part }
     {
-        self.counts.get(usize::from(part)).copied().unwrap_or(0)
+        self.counts[usize::from(part)]
     }
 
     // One more write to a part, and no more at the top of 64 bits.
     pub(crate) fn count(&mut self, part: u8)
+        requires { part < 32 }
         ensures { self.new.counts ≡ slice_set self.old.counts part (counted_on (slice_index self.old.counts part)) }
     {
-        let place = usize::from(part);
-        // No `get_mut`: the library tells nothing of an array's elements once its borrow ends.
-        if place < self.counts.len() {
-            self.counts[place] = self.counts[place].saturating_add(1);
-        }
+        let tally = &mut self.counts[usize::from(part)];
+        *tally = tally.saturating_add(1);
     }
 }

@@ -1,11 +1,13 @@
 -- The listed bank.
 --   bank_from   the bank that a list of parts is
+--   shown       what a listed bank shows
 --   Shows       what is told of a part that is looked up
 --   Put         each part put on its code of a state
 --   SetTo       the bank put on a state that it has
 --   CameFrom    the bank and the rules that the bytes of a table list
 use Rattle.std.specs.Prelude.{◌≡◌, ℕ, ◌<◌, List, length, Some, None, Option}
 use Rattle.std.specs.Borrow.{Bor}
+use Rattle.std.specs.Vec.{vec_items}
 use Rattle.device.specs.Device.{no_device, set_on}
 use Rattle.device.specs.Figures.{kind_of}
 use Rattle.table.specs.Reading.{accepted}
@@ -16,6 +18,7 @@ use Rattle.listing.specs.declared.part.Part.{Part}
 use Rattle.bank.specs.Banks.{BankModel}
 use Rattle.bank.specs.States.{number, digit, counts, spans}
 use Rattle.listed.specs.Figured.{at_or, bank_of}
+use Rattle.listed.specs.declared.Listed.{Listed}
 
 -- the bank that a list of parts is
 abbrev pub bank_from : List Part → BankModel
@@ -24,6 +27,10 @@ bank_from ps = record {
   kind = at_or (λ x. Some (kind_of (part_figures x))) None ps;
   device = at_or part_model no_device ps;
 }
+
+-- what a listed bank shows
+abbrev pub shown : Listed → BankModel
+shown b = bank_from (vec_items b.parts)
 
 -- what is told of part p: none where it is absent
 abbrev pub Shows : BankModel → ℕ → Option (Bor Part) → Type 0
