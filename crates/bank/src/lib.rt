@@ -13,6 +13,7 @@ pub mod states;
 // A bank shows no part past this many.
 pub const MOST_SHOWN: u8 = 32;
 
+// Of an absent part or code the questions tell 0 or no, so that a caller need not ask first whether it is there.
 pub trait Bank {
     // What the bank means.
     ghost model: { Self → BankModel };

@@ -5,4 +5,7 @@
 pub mod levels;
 pub mod line;
 
+// No accepted table is this long, so a program reads no more of its input.
+pub const MOST_BYTES: u64 = 4_096;
+
 pub use line::Line;

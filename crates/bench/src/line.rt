@@ -27,6 +27,7 @@ pub enum Line {
     Refused(Refusal),
 }
 
+// A rule's words stand here and not with the rule: what the programs print is in one place.
 impl fmt::Display for Line {
     ghost output = { λ l. Some (line_bytes l) };
 

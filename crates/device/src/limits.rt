@@ -34,7 +34,7 @@ pub fn is_divisors(divisors: Code) -> bool
     (1..=MOST_DIVISORS).contains(&divisors)
 }
 
-// The figures of a linear rail, its highest level too.
+// The figures of a linear rail, its highest level too. What holds the three together is the rail that is made of them.
 pub fn is_linear(lowest: u32, step: u32, count: Code) -> bool
     ensures { result ≡ ranged (linear lowest step count) }
 {

@@ -3,13 +3,10 @@
 
 #![tactic(auto)]
 
-use bench::Line;
 use bench::levels::levels;
+use bench::{Line, MOST_BYTES};
 use std::io;
 use std::io::Read;
-
-// No accepted table is this long, so no more of the input is read.
-const MOST_BYTES: u64 = 4_096;
 
 fn main(rt: HostRuntime) -> io::Result<()> {
     let heap = rt.alloc();
@@ -17,7 +14,8 @@ fn main(rt: HostRuntime) -> io::Result<()> {
     rt.stdin().take(MOST_BYTES).read_to_end(&mut table)?;
     match levels(heap, &table) {
         Ok(lines) => {
-            for line in lines.iter() {
+            // By `text`, whose contract tells the bytes, the newline too.
+            for line in &lines {
                 rt.print(line.text(heap)?)?;
             }
             Ok(())

@@ -34,7 +34,7 @@ impl Listing {
         self.states
     }
 
-    // The parts and the rules, taken apart. No `From`: each list has its clause.
+    // The parts and the rules, taken apart, as the library's `into_parts` does.
     pub fn into_lists(self) -> (Vec<Part>, Vec<Rule>)
         ensures { (result.0 ≡ self.parts) × (result.1 ≡ self.rules) }
     {

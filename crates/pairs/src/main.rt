@@ -4,15 +4,12 @@
 #![tactic(auto)]
 
 use answer::State;
-use bench::Line;
+use bench::{Line, MOST_BYTES};
 use board::Board;
 use listed::Listed;
 use search::{Graph, count_joined, count_lawful};
 use std::io;
 use std::io::Read;
-
-// No accepted table is this long, so no more of the input is read.
-const MOST_BYTES: u64 = 4_096;
 
 // How many pairs of a graph's states are joined, each counted from both ends.
 fn count_pairs<G: Graph>(graph: &G) -> usize {

@@ -17,7 +17,8 @@ fn is_figure(figure: u32) -> bool
     figure <= TOP_LEVEL
 }
 
-// Each number of four bytes a level.
+// Each number of four bytes a level: as `device::limits::are_levels`, over bytes. One text for both would take an iterator, of
+// which a clause tells no list.
 fn are_levels(bytes: &[u8]) -> bool
     ensures { result ≡ levels_ok (words bytes.now) }
 {
