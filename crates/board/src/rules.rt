@@ -58,8 +58,7 @@ impl<B: Bank> Board<B> {
         self.rules().iter().all(|rule| self.holds(state, rule))
     }
 
-    // Whether a rule allows the write of a part that leads from one state to another. No struct of the
-    // three: it would serve two private functions alone.
+    // Whether a rule allows the write of a part that leads from one state to another.
     // The write is three plain arguments: a struct of them would serve two private functions alone.
     fn allows(&self, from: State, to: State, part: u8, rule: &Rule) -> bool
         ensures { result ≡ allows_by (layout B.model self.now) from to part rule.now }
