@@ -1,8 +1,9 @@
 -- State numbers: encoding and decoding, one digit at a time.
 use Rattle.std.proofs.Common.{◌≡◌, ℕ, zero, suc, ◌+◌, ◌*◌, ◌/◌, ◌%◌, ◌<◌, ◌≤◌, sym, refl, ap, ◌∙◌, subst, inl, inr, mod-eq_of_lt, mul_assoc, mul_comm, arith}
-use native.Mathlib.Nat.{add-mul-div_left, mul-add-mod_self_left, div-div-eq-div-mul}
-use lib.Arith.{mod-mul}
-use Rattle.std.proofs.lemmas.Nat.{mul-le, mul-add-lt, div-mul-add, mod_below}
+use Rattle.std.proofs.Math.Nat.{add-mul-div_left, mul-add-mod_self_left, div-div-eq-div-mul, dvd-mul_right, one-le-mul}
+use Rattle.std.proofs.Math.Arith.{mod-mul}
+use Rattle.std.proofs.lemmas.Nat.{mul-add-lt, div-mul-add, mod_below}
+use Rattle.std.proofs.lemmas.Nat.Gcd.{le_of_dvd}
 use Rattle.std.proofs.lemmas.Bool.{cases_lt}
 use Rattle.bank.specs.States.{weight, number, digit}
 
@@ -10,40 +11,26 @@ module _ (count : ℕ → ℕ) where
   -- with a code in each part there is a state
   pub weight_some : (k : ℕ) → ((p : ℕ) → p < k → 1 ≤ count p) → 1 ≤ weight count k
   weight_some zero some = omega arith
-  weight_some (suc k) some =
-      mul-le 1 1 (weight count k) (count k) (weight_some k (λ p h. some p (omega arith))) (some k (omega arith))
+  weight_some (suc k) some = one-le-mul (weight_some k (λ p h. some p (omega arith))) (some k (omega arith))
 
   -- the weight of a part divides that of each later one
   divides : (p k : ℕ) → p ≤ k → (m : ℕ) × (weight count k ≡ weight count p * m)
-  divides p zero h =
-      let none : p ≡ 0 = omega arith in
-      (1, ap (λ n. weight count n * 1) (sym none))
+  divides p zero h = (1, grind arith)
   divides p (suc k) h =
       elim (cases_lt p (suc k)) [
         | inl l ↦
             let d = divides p k (omega arith) in
             (d.0 * count k, ap (λ n. n * count k) d.1 ∙ mul_assoc (weight count p) d.0 (count k))
         | inr l ↦
-            let same : p ≡ suc k = omega arith in
-            let whole : weight count (suc k) ≡ weight count (suc k) * 1 = omega arith in
-            (1, whole ∙ ap (λ n. weight count n * 1) (sym same))
+            let same : suc k ≡ p = omega arith in
+            (1, omega (arith, ap (weight count) same))
       ]
 
   -- and is no larger
   pub weight_grows : (p k : ℕ) → p ≤ k → ((q : ℕ) → q < k → 1 ≤ count q) → weight count p ≤ weight count k
-  weight_grows p zero h some =
-      let none : p ≡ 0 = omega arith in
-      omega (arith, ap (weight count) none)
-  weight_grows p (suc k) h some =
-      elim (cases_lt p (suc k)) [
-        | inl l ↦
-            let below = weight_grows p k (omega arith) (λ q g. some q (omega arith)) in
-            let more = mul-le (weight count k) 1 (weight count k) (count k) (omega arith) (some k (omega arith)) in
-            omega arith
-        | inr l ↦
-            let same : p ≡ suc k = omega arith in
-            omega (arith, ap (weight count) same)
-      ]
+  weight_grows p k h some =
+      let d = divides p k h in
+      le_of_dvd (weight_some k some) (rw d.1 (dvd-mul_right (weight count p) d.0))
 
   -- codes within their counts make a number below the product
   pub number_below : (code : ℕ → ℕ) (k : ℕ) → ((p : ℕ) → p < k → code p < count p) → number count code k < weight count k
@@ -56,8 +43,8 @@ module _ (count : ℕ → ℕ) where
   number_same code other zero same = refl
   number_same code other (suc k) same =
       let below = number_same code other k (λ p h. same p (omega arith)) in
-      let here = ap (λ c. c * weight count k) (same k (omega arith)) in
-      omega arith
+      let here = same k (omega arith) in
+      grind arith
 
   -- decoding inverts encoding
   pub digit_number : (code : ℕ → ℕ) (k : ℕ) → ((p : ℕ) → p < k → code p < count p) → (p : ℕ) → p < k → digit count (number count code k) p ≡ code p
@@ -107,12 +94,6 @@ module _ (count : ℕ → ℕ) where
   pub digit_below : (s p : ℕ) → 1 ≤ count p → digit count s p < count p
   digit_below s p h = mod_below (s / weight count p) (count p) h
 
-  -- states that agree in every part are one
-  pub digits_same : (s t k : ℕ) → ((p : ℕ) → p < k → 1 ≤ count p) → s < weight count k → t < weight count k
-      → ((p : ℕ) → p < k → digit count s p ≡ digit count t p) → s ≡ t
-  digits_same s t k some hs ht same =
-      sym (number_digit s k some hs) ∙ number_same (digit count s) (digit count t) k same ∙ number_digit t k some ht
-
   -- what is left of a state number past one part more
   pub rest_more : (s p : ℕ) → s / weight count p / count p ≡ s / weight count (suc p)
   rest_more s p = div-div-eq-div-mul s (weight count p) (count p)
@@ -125,12 +106,9 @@ module _ (count : ℕ → ℕ) where
       elim (cases_lt p k) [
         | inl l ↦
             let below = number_one code other k p l (λ q g. same q (omega arith)) in
-            let here = ap (λ c. c * weight count k) (same k (omega arith) (λ e. omega arith)) in
-            omega arith
+            let here = same k (omega arith) (λ e. omega arith) in
+            grind arith
         | inr l ↦
-            let at : p ≡ k = omega arith in
             let below = number_same other code k (λ q g. same q (omega arith) (λ e. omega arith)) in
-            let old = ap (λ i. code i * weight count i) at in
-            let new = ap (λ i. other i * weight count i) at in
-            omega arith
+            grind arith
       ]

@@ -18,15 +18,13 @@ fn add_codes(lines: &mut Vec<Line>, number: u8, part: &Part) -> Result<(), Alloc
     ensures { OnOk result (lines.new.items ≡ lines.old.items ++ code_lines number (part_figures part.now)) }
 {
     let kind = part.kind();
-    'codes: for code in 0..part.count() {
-        lines.push(Line::Level {
-            kind,
-            part: number,
-            code,
-            level: part.level(code),
-        })?;
-    }
-    Ok(())
+    let codes = 0..part.count();
+    lines.extend(codes.map(|code| Line::Level {
+        kind,
+        part: number,
+        code,
+        level: part.level(code),
+    }))
 }
 
 // The lines of all parts.
@@ -44,11 +42,7 @@ fn add_parts(lines: &mut Vec<Line>, listing: &Listing) -> Result<(), AllocError>
 fn add_rules(lines: &mut Vec<Line>, listing: &Listing) -> Result<(), AllocError>
     ensures { OnOk result (lines.new.items ≡ lines.old.items ++ map rule_line (lists_of listing.now).rules) }
 {
-    let rules = listing.rules();
-    'rules: for rule in rules {
-        lines.push(Line::Rule(*rule))?;
-    }
-    Ok(())
+    lines.extend(listing.rules().iter().map(|rule| Line::Rule(*rule)))
 }
 
 // The one line of a refused table. Want of memory is no refusal of the table, and stays a fault.
@@ -59,9 +53,7 @@ fn refused(heap: Global, fault: Fault) -> Result<Vec<Line>, Fault>
     if fault.refusal == Refusal::NoMemory {
         return Err(Fault::memory());
     }
-    let mut lines = Vec::new(heap);
-    lines.push(Line::Refused(fault.refusal))?;
-    Ok(lines)
+    Ok(vec![in heap; Line::Refused(fault.refusal)]?)
 }
 
 // The lines for a table: its parts' codes with their levels and then its rules, or its refusal alone.

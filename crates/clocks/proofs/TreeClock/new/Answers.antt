@@ -1,23 +1,13 @@
-use Rattle.std.proofs.Common.{◌≡◌, ◌≤◌, true, vec_items, vec_len, arith, rules}
-use Rattle.std.proofs.lemmas.Nat.{mul-le}
-use Rattle.device.specs.Figures.{levels_ok}
+use Rattle.std.proofs.Common.{vec_items, arith, rules}
+use Rattle.std.proofs.Math.Nat.{one-le-mul}
 use Rattle.device.proofs.Levels.{levels_within}
 use Rattle.clocks.proofs.TreeClock.new.Goals as goal
 
-pub invariant_of-result : goal.invariant_of-result
-invariant_of-result c =
-    let xs = vec_items c.args.parents in
-    let n = vec_len c.args.parents in
-    let k = c.args.divisors in
-    let ok : levels_ok xs ≡ true = cc in
-    let some : 1 ≤ n = search rules in
-    let codes = mul-le 1 1 n k some (search rules) in
-    record {
-      fewest = search rules;
-      most = search rules;
-      some = some;
-      few = search rules;
-      low = λ j h. (levels_within xs ok j (search rules)).0;
-      high = λ j h. (levels_within xs ok j (search rules)).1;
-      within = omega arith;
-    }
+pub invariant_of-result-clause-low : goal.invariant_of-result-clause-low
+invariant_of-result-clause-low c = λ k h. (levels_within (vec_items c.args.parents) (cc) k (search rules)).0
+
+pub invariant_of-result-clause-high : goal.invariant_of-result-clause-high
+invariant_of-result-clause-high c = λ k h. (levels_within (vec_items c.args.parents) (cc) k (search rules)).1
+
+pub invariant_of-result-clause-within : goal.invariant_of-result-clause-within
+invariant_of-result-clause-within c = grind (arith, one-le-mul)
