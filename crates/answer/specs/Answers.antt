@@ -2,7 +2,8 @@
 --   refusal_number   why a call is sent back
 --   layer_number     which layer sent it back
 --   no_state         the state number that stands for no state
-use Rattle.std.specs.Prelude.{ℕ}
+--   state_number     the number of a state outside
+use Rattle.std.specs.Prelude.{ℕ, Option, Some, None}
 use Rattle.answer.specs.declared.refusal.Refusal.{Refusal}
 use Rattle.answer.specs.declared.refusal.Refusal.TheVariants.{Truncated, UnknownKind, WrongLength, OutOfRange, TooMany, WrongPart, NoPart, ShortBuffer, NoSuchState, Unlawful, NoChain, VoidNote, NoWriteLeft, OffPlan, NotJoined, Balked, Unsure, NoMemory}
 use Rattle.answer.specs.declared.layer.Layer.{Layer}
@@ -39,3 +40,8 @@ layer_number Device = 4
 -- the state number that stands for no state
 abbrev pub no_state : ℕ
 no_state = 65535
+
+-- the number of a state outside
+abbrev pub state_number : Option ℕ → ℕ
+state_number (Some s) = s
+state_number None = no_state

@@ -9,9 +9,11 @@
 --   codes        the present code of each part of a bank
 --   encoded      the number of the present codes
 --   present      the state number of a bank's present codes
+--   present_state   the present state, if there is one
 use Rattle.std.specs.Prelude.{ℕ, ◌≤◌, Bool, cond, ◌&&◌, List, length, Option, Ok, Err, Result, ◌==◌, nat_le, nat_lt}
 use Rattle.std.specs.List.{list_all, AllByRecursion}
-use Rattle.std.specs.Result.{result_unwrap_or}
+use Rattle.std.specs.Option.{option_map}
+use Rattle.std.specs.Result.{result_ok, result_unwrap_or}
 use Rattle.answer.specs.Answers.{no_state}
 use Rattle.answer.specs.declared.refusal.Refusal.{Refusal}
 use Rattle.answer.specs.declared.refusal.Refusal.TheVariants.{NoPart, TooMany, WrongPart}
@@ -89,3 +91,7 @@ encoded m = number (counts m) (codes m) m.parts
 -- the present state of a bank under some rules
 abbrev pub present : BankModel → List Rule → ℕ
 present m rules = state_by (verdict_of (layout_of m rules)) (encoded m)
+
+-- the present state of a bank under some rules, none with a defect
+abbrev pub present_state : BankModel → List Rule → Option ℕ
+present_state m rules = option_map (λ _. encoded m) (result_ok (verdict_of (layout_of m rules)))

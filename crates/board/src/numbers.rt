@@ -1,15 +1,16 @@
 // A board's states by number: the present one, and the codes of any.
 ghost use Rattle.std.specs.Prelude.{◌≡◌, ◌≤◌, ◌↔◌, None};
 ghost use Rattle.std.specs.Result.{result_err};
+ghost use Rattle.answer.specs.Answers.{state_number};
 ghost use Rattle.bank.specs.States.{number, weight, counts};
 ghost use Rattle.board.specs.Boards.{Numbered, Decoded, layout};
 ghost use Rattle.board.specs.Joining.{change as change_of};
-ghost use Rattle.board.specs.Layouts.{NoDefect, verdict_of, code_at, encoded, present};
+ghost use Rattle.board.specs.Layouts.{NoDefect, verdict_of, code_at, encoded, present, present_state};
 
 use super::Board;
 use super::change::Change;
 use super::judge::judge;
-use answer::{NONE, Refusal, State};
+use answer::{Refusal, State};
 use bank::Bank;
 use device::Code;
 use table::Rule;
@@ -71,12 +72,13 @@ impl<B: Bank> Board<B> {
         state as State
     }
 
-    // The present state, or none with a defect.
-    pub fn state(&self) -> State
-        ensures state { result ≡ present (B.model self.now.bank) self.now.rules.items }
-        ensures numbered { Numbered (B.model self.now.bank) self.now.rules.items result }
+    // The present state, none with a defect.
+    pub fn state(&self) -> Option<State>
+        ensures state { result ≡ present_state (B.model self.now.bank) self.now.rules.items }
+        ensures number { state_number result ≡ present (B.model self.now.bank) self.now.rules.items }
+        ensures numbered { Numbered (B.model self.now.bank) self.now.rules.items (state_number result) }
     {
-        self.verdict().map_or(NONE, |_| self.encode())
+        self.verdict().ok().map(|_| self.encode())
     }
 
     // The code of a part in a state, 0 for an absent part.

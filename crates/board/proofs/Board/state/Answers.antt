@@ -1,4 +1,5 @@
 use Rattle.std.proofs.Common.{◌≡◌, vec_items, rules}
+use Rattle.answer.specs.Answers.{state_number}
 use Rattle.board.specs.Layouts.{present}
 use Rattle.board.specs.Numbering.{numbered}
 use Rattle.board.proofs.Board.state.Goals as goal
@@ -7,5 +8,5 @@ pub returns-clause-numbered : goal.returns-clause-numbered
 returns-clause-numbered g c =
     let b = c.args.self.now in
     let m = g.B.Bank.model b.bank in
-    let here : c.map_or.result ≡ present m (vec_items b.rules) = search rules in
+    let here : state_number c.map.result ≡ present m (vec_items b.rules) = search rules in
     rw here (numbered m (g.met.B.Bank.sound b.bank) (vec_items b.rules))
