@@ -1,4 +1,3 @@
-pub mod Admits
 pub mod Fitting
 pub mod PartDevices
 pub mod Whole
