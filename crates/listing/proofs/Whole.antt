@@ -1,5 +1,5 @@
 -- A whole table is accepted exactly when its records make the table of a board.
-use Rattle.std.proofs.Common.{◌≡◌, ℕ, ◌≤◌, true, false, eqb, List, [], length, Ok, sym, ap, ◌∙◌, subst, inl, inr, arith}
+use Rattle.std.proofs.Common.{◌≡◌, ℕ, ◌≤◌, true, eqb, List, [], length, Ok, sym, refl, ap, ◌∙◌, subst, inl, inr, arith}
 use Rattle.std.proofs.lemmas.Bool.{ne_eqb}
 use Rattle.answer.specs.declared.refusal.Refusal.TheVariants.{NoPart}
 use Rattle.answer.specs.declared.fault.Fault.{Fault}
@@ -17,16 +17,14 @@ use Rattle.table.proofs.Walks.{walk_encoded, walk_accepted}
 
 -- a table read to its end with a part is accepted
 pub listed : (bs : List ℕ) (n : ℕ) (l : Lists) → walk admit 0 0 nothing bs ≡ accepted n l → (length l.parts ≡ 0 → ⊥) → listing bs ≡ accepted n l
-listed bs n l h some = ap closed h ∙ (let t : eqb (length l.parts) 0 ≡ false = ne_eqb (length l.parts) 0 some in simp t)
+listed bs n l h some = ap closed h ∙ simp (ne_eqb (length l.parts) 0 some)
 
 -- one without is sent back at its end
 pub listed_none : (bs : List ℕ) (n : ℕ) (l : Lists) (f : Fault) → walk admit 0 0 nothing bs ≡ accepted n l → l.parts ≡ [] → f ≡ table_fault NoPart n → SentBack (listing bs) f
 listed_none bs n l f h none fault =
-    let why : f.refusal ≡ NoPart = ap (λ (q : Fault). q.refusal) fault in
-    let place : f.place ≡ n = ap (λ (q : Fault). q.place) fault in
     let t : eqb (length l.parts) 0 ≡ true = ap (λ ps. eqb (length ps) 0) none in
     let back : listing bs ≡ sent_back NoPart n = ap closed h ∙ simp t in
-    inr (back ∙ ap (λ w. sent_back w n) (sym why) ∙ ap (sent_back f.refusal) (sym place), fault ∙ ap (λ w. table_fault w n) (sym why) ∙ ap (table_fault f.refusal) (sym place))
+    rw fault (inr (back, refl))
 
 -- one that is sent back on its way is sent back
 pub listed_back : (bs : List ℕ) (f : Fault) → (walk admit 0 0 nothing bs ≡ sent_back f.refusal f.place) × (f ≡ table_fault f.refusal f.place) → SentBack (listing bs) f

@@ -1,4 +1,4 @@
-use Rattle.std.proofs.Common.{◌≡◌, [], length, vec_items, vec_len, sym, ap, ◌∙◌, inl, inr, arith}
+use Rattle.std.proofs.Common.{◌≡◌, length, vec_items, vec_len, sym, ap, ◌∙◌, inl, inr, arith}
 use Rattle.std.proofs.lemmas.List.{length-map, nil_from_length}
 use Rattle.std.proofs.lemmas.Result.{err_from_is_err_and}
 use Rattle.std.proofs.lemmas.Bool.{eqb-true, eqb-false}
@@ -10,7 +10,7 @@ use Rattle.listing.specs.Listed.{lists_of}
 use Rattle.listing.specs.Lists.{nothing, admit, listing}
 use Rattle.table.specs.Reading.{walk, accepted}
 use Rattle.table.proofs.LittleEndian.{bytes_from}
-use Rattle.table.proofs.OnTheWay.{Here, here, here_less, way_none, way_more, way_all, way_fault, way_not_added, end_stays}
+use Rattle.table.proofs.OnTheWay.{Here, here, here_less, way_more, way_all, way_fault, way_not_added, end_stays}
 use Rattle.listing.proofs.Whole.{listed, listed_none, listed_back, board_table, only_full}
 use Rattle.listing.proofs.Listing.read.Goals as goal
 use Rattle.listing.proofs.Listing.read.Goals.{In-Some, In_default}
@@ -34,10 +34,6 @@ moved_not : (c : In_default) → c.next.new.self.number ≡ c.records.reader.num
 moved_not c =
     end_stays c.records.reader.table.now c.in_ok-placed.field-0 c.records.reader.number c.records.reader.at c.next.new.self.number c.next.new.self.at
     c.in_ok-placed.ensures.read c.in_default.is
-
-pub records-init : goal.records-init
-records-init c =
-    way_none admit nothing c.args.table.now _ _ _ _ c.new-reader.ensures.bytes c.empty-listing.ensures c.new-reader.ensures.number c.new-reader.ensures.cursor
 
 pub returns-in_err-placed : goal.returns-in_err-placed
 returns-in_err-placed c =
@@ -84,8 +80,8 @@ pub returns-then-is_empty : goal.returns-then-is_empty
 returns-then-is_empty c =
     let bs = c.args.table.now in
     let l = c.records.listing in
-    let items : length (vec_items l.parts) ≡ 0 = omega (arith, l.parts.ok.0, eqb-true (vec_len l.parts) 0 (sym c.if-is_empty.ensures)) in
-    let none : (lists_of l).parts ≡ [] = nil_from_length (lists_of l).parts (omega (arith, length-map (vec_items l.parts) part_figures)) in
+    let items = eqb-true (vec_len l.parts) 0 (sym c.if-is_empty.ensures) in
+    let none = nil_from_length (lists_of l).parts (omega (arith, l.parts.ok.0, length-map (vec_items l.parts) part_figures)) in
     let back : SentBack (listing bs) c.table.result =
     listed_none bs c.records.reader.number (lists_of l) c.table.result (at_end (goal.at.returns-then-is_empty c).In_default) none
     (c.table.ensures ∙ ap (table_fault NoPart) (c.number.ensures ∙ moved_not (goal.at.returns-then-is_empty c).In_default)) in
@@ -95,10 +91,10 @@ pub returns : goal.returns
 returns c =
     let bs = c.args.table.now in
     let l = c.records.listing in
-    let some : (length (lists_of l).parts ≡ 0 → ⊥) =
-    λ none. eqb-false (vec_len l.parts) 0 (sym c.if-is_empty.ensures) (omega (arith, l.parts.ok.0, length-map (vec_items l.parts) part_figures)) in
+    let items = eqb-false (vec_len l.parts) 0 (sym c.if-is_empty.ensures) in
+    let some = λ (none : length (lists_of l).parts ≡ 0). items (omega (arith, l.parts.ok.0, length-map (vec_items l.parts) part_figures)) in
     let read = at_end (goal.at.returns c).In_default in
     record {
-      read = record { records = c.records.reader.number; listed = listed bs c.records.reader.number (lists_of l) read some; fresh = l.fresh };
-      exact = board_table bs c.records.reader.number l (bytes_from bs c.type_inv.table) read some;
+      read = record { records = _; listed = listed bs _ (lists_of l) read some; fresh = l.fresh };
+      exact = board_table bs _ l (bytes_from bs c.type_inv.table) read some;
     }
