@@ -10,12 +10,8 @@ use table::MOST_STATES;
 pub fn product<B: Bank>(bank: &B) -> Option<usize>
     ensures { let m = B.model bank.now in let n = weight (counts m) m.parts in result ≡ (if nat_le n 4096 then Some n else None) }
 {
-    let mut states = 1;
-    'parts: for part in 0..bank.parts() {
-        states *= usize::from(bank.count(part));
-        if states > MOST_STATES {
-            return None;
-        }
-    }
-    Some(states)
+    (0..bank.parts()).try_fold(1, |states, part| {
+        let states = states * usize::from(bank.count(part));
+        (states <= MOST_STATES).then_some(states)
+    })
 }

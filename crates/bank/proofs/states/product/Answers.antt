@@ -1,16 +1,22 @@
-use Rattle.std.proofs.Common.{◌∙◌, arith}
-use Rattle.bank.specs.States.{counts}
-use Rattle.bank.proofs.Products.{product_more, product_past}
+use Rattle.std.proofs.Common.{ap, ◌∙◌, rules, arith}
+use Rattle.bank.specs.States.{weight, counts}
+use Rattle.bank.proofs.Products.{limited, so_far, product_ends}
 use Rattle.bank.proofs.states.product.Goals as goal
 
-pub returns-then-states-gt-MOST_STATES : goal.returns-then-states-gt-MOST_STATES
-returns-then-states-gt-MOST_STATES g c =
+pub try_fold-requires-clause-callable : goal.try_fold-requires-clause-callable
+try_fold-requires-clause-callable g c =
     let m = g.B.Bank.model c.args.bank.now in
-    let s = g.met.B.Bank.sound c.args.bank.now in
-    product_past (counts m) c.parts.part c.parts.states c.from-states.result (c.from-states.ensures ∙ c.count.ensures) c.parts.invariant.0 m.parts
-    (omega (arith, c.parts-part-end.ensures)) (λ q h. (s.sound q h).some) c.if-states-gt-MOST_STATES.true
+    let sound = g.met.B.Bank.sound c.args.bank.now in
+    record {
+      at = λ xs t q x u y f e.
+          let far = so_far (counts m) c.parts.result (λ p h. (sound.sound p (omega arith)).some) _ (record { 0 = c.args.bank }) (λ a p r h k. search rules) xs t u _ q y f (omega arith) in
+          search rules;
+    }
 
-pub parts-preserved : goal.parts-preserved
-parts-preserved g c =
+pub returns : goal.returns
+returns g c =
     let m = g.B.Bank.model c.args.bank.now in
-    (product_more (counts m) c.parts.part c.parts.states c.from-states.result (c.from-states.ensures ∙ c.count.ensures) c.parts.invariant.0, omega arith)
+    let sound = g.met.B.Bank.sound c.args.bank.now in
+    let ran = c.try_fold.ensures.ran in
+    product_ends (counts m) c.parts.result (λ p h. (sound.sound p (omega arith)).some) _ (record { 0 = c.args.bank }) (λ a p r h k. search rules) ran.0 ran.4.0 _ _ (ran.2, ran.3) ran.4.1 ran.5 (omega arith) _ c.try_fold.result ran.1 ran.4.2 ran.6
+    ∙ ap (λ n. limited (weight (counts m) n)) c.parts.ensures
