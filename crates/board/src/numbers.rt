@@ -62,14 +62,9 @@ impl<B: Bank> Board<B> {
         requires { let m = B.model self.now.bank in weight (counts m) m.parts ≤ 4096 }
         ensures { result ≡ encoded (B.model self.now.bank) }
     {
-        // A loop: a `fold` would have to carry the product beside the number.
-        let mut product = 1;
-        let mut state = 0;
-        'parts: for part in 0..self.bank.parts() {
-            state += usize::from(self.bank.code(part)) * product;
-            product *= usize::from(self.bank.count(part));
-        }
-        state as State
+        (0..self.bank.parts()).rev().fold(0, |state, part| {
+            state * usize::from(self.bank.count(part)) + usize::from(self.bank.code(part))
+        }) as State
     }
 
     // The present state, none with a defect.
