@@ -33,7 +33,11 @@ impl<D: Device> Bank for OnePart<D> {
     }
 
     fn kind(&self, part: u8) -> Option<Kind> {
-        if part == 0 { Some(self.device.kind()) } else { None }
+        if part == 0 {
+            Some(self.device.kind())
+        } else {
+            None
+        }
     }
 
     fn count(&self, part: u8) -> Code {
