@@ -8,11 +8,11 @@ use Rattle.table.specs.declared.rule.Rule.{Rule}
 use Rattle.bank.specs.Banks.{BankModel, Sound, Written}
 use Rattle.bank.specs.States.{number, counts}
 use Rattle.bank.proofs.Digits.{number_same, number_one}
-use Rattle.board.specs.Layouts.{Layout, layout_of, verdict_of, states_of, code_at, codes, state_by, present}
+use Rattle.board.specs.Layouts.{Layout, layout_of, verdict_of, states_of, code_at, present_codes, state_by, present}
 use Rattle.board.specs.Lawfulness.{Lawful}
 use Rattle.board.specs.Joining.{JoinedBy}
 use Rattle.board.specs.Moves.{Lands, Moved, OneDigit}
-use Rattle.board.specs.Numbering.{present_is, numbered, decoded}
+use Rattle.board.specs.Numbering.{present_is, present_numbered, decoded}
 use Rattle.board.specs.Verdicts.{Flawless, flawless}
 
 module _ (m n : BankModel) (rules : List Rule) (p c : ℕ) (a : Answer) (w : Written m p c a n) where
@@ -36,10 +36,10 @@ module _ (m n : BankModel) (rules : List Rule) (p c : ℕ) (a : Answer) (w : Wri
   }
 
   -- the state after the write, by the old counts
-  pub after_is : Flawless (layout_of m rules) → present n rules ≡ number (counts m) (codes n) m.parts
+  pub after_is : Flawless (layout_of m rules) → present n rules ≡ number (counts m) (present_codes n) m.parts
   after_is fine =
-      ap (λ (l : Layout). state_by (verdict_of l) (number l.count (codes n) l.parts)) same_layout
-      ∙ ap (λ v. state_by v (number (counts m) (codes n) m.parts)) fine.verdict
+      ap (λ (l : Layout). state_by (verdict_of l) (number l.count (present_codes n) l.parts)) same_layout
+      ∙ ap (λ v. state_by v (number (counts m) (present_codes n) m.parts)) fine.verdict
 
   module _ (sound : Sound m) (t : ℕ) (j : JoinedBy (layout_of m rules) (present m rules) t p) (asked : code_at (layout_of m rules) t p ≡ c) where
     fine : Flawless (layout_of m rules)
@@ -47,13 +47,13 @@ module _ (m n : BankModel) (rules : List Rule) (p c : ℕ) (a : Answer) (w : Wri
 
     -- the present code of a part is that of the present state
     code_is : (q : ℕ) → q < m.parts → code_at (layout_of m rules) (present m rules) q ≡ (m.device q).code
-    code_is = (numbered m sound rules (let below = j.from_lawful.below in omega arith)).1
+    code_is = (present_numbered m sound rules (let below = j.from_lawful.below in omega arith)).1
 
     -- the write did not take
     stays : (n.device p).code ≡ (m.device p).code → present n rules ≡ present m rules
     stays e =
         after_is fine
-        ∙ number_same (counts m) (codes n) (codes m) m.parts
+        ∙ number_same (counts m) (present_codes n) (present_codes m) m.parts
         (λ q _. each (λ d f. f.code ≡ d.code) (λ d f s. ap (λ (x : Device). x.code) s) e q)
         ∙ sym (present_is m rules fine)
 
@@ -61,7 +61,7 @@ module _ (m n : BankModel) (rules : List Rule) (p c : ℕ) (a : Answer) (w : Wri
     takes : (n.device p).code ≡ c → present n rules ≡ t
     takes e =
         after_is fine
-        ∙ number_same (counts m) (codes n) (code_at (layout_of m rules) t) m.parts
+        ∙ number_same (counts m) (present_codes n) (code_at (layout_of m rules) t) m.parts
         (λ q h. elim (cases_eq q p) [
           | inl s ↦ subst (λ r. (n.device r).code ≡ code_at (layout_of m rules) t r) (sym s) (e ∙ sym asked)
           | inr ne ↦ ap (λ (x : Device). x.code) (w.others q ne) ∙ sym (code_is q h) ∙ j.alike q h ne
@@ -97,9 +97,9 @@ one_digit m n rules p c a sm sn w here some =
     let fine = flawless (layout_of m rules) some in
     let before = present_is m rules fine in
     let after = after_is m n rules p c a w fine in
-    let shift = number_one (counts m) (codes m) (codes n) m.parts p here (λ q _ ne. ap (λ (x : Device). x.code) (w.others q ne)) in (
+    let shift = number_one (counts m) (present_codes m) (present_codes n) m.parts p here (λ q _ ne. ap (λ (x : Device). x.code) (w.others q ne)) in (
       omega arith,
-      λ q h ne. (numbered n sn rules (omega (arith, states))).1 q (omega (arith, w.parts))
+      λ q h ne. (present_numbered n sn rules (omega (arith, states))).1 q (omega (arith, w.parts))
           ∙ ap (λ (x : Device). x.code) (w.others q ne)
-          ∙ sym ((numbered m sm rules some).1 q h),
+          ∙ sym ((present_numbered m sm rules some).1 q h),
     )

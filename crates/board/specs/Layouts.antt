@@ -6,7 +6,7 @@
 --   states_of    the number of states, 0 with a defect
 --   code_at      the code of a part in a state
 --   level_at     the level of a part in a state
---   codes        the present code of each part of a bank
+--   present_codes   the present code of each part of a bank
 --   encoded      the number of the present codes
 --   present      the state number of a bank's present codes
 --   present_state   the present state, if there is one
@@ -81,12 +81,12 @@ state_by (Ok n) s = s
 state_by (Err why) s = no_state
 
 -- the present code of each part
-abbrev pub codes : BankModel → ℕ → ℕ
-codes m p = (m.device p).code
+abbrev pub present_codes : BankModel → ℕ → ℕ
+present_codes m p = (m.device p).code
 
 -- the number of the present codes
 abbrev pub encoded : BankModel → ℕ
-encoded m = number (counts m) (codes m) m.parts
+encoded m = number (counts m) (present_codes m) m.parts
 
 -- the present state of a bank under some rules
 abbrev pub present : BankModel → List Rule → ℕ

@@ -8,7 +8,7 @@ use Rattle.bank.specs.Banks.{BankModel, Sound}
 use Rattle.bank.specs.States.{weight, number, digit, counts}
 use Rattle.bank.proofs.Digits.{weight_grows, number_below, number_same, number_digit, digit_number, digit_below, rest_more}
 use Rattle.board.specs.Boards.{Numbered, Decoded}
-use Rattle.board.specs.Layouts.{Layout, layout_of, code_at, codes, encoded, state_by, present}
+use Rattle.board.specs.Layouts.{Layout, layout_of, code_at, present_codes, encoded, state_by, present}
 use Rattle.board.specs.Verdicts.{Flawless, flawless, states_are}
 
 -- the code of a part that is there
@@ -27,22 +27,24 @@ module _ (m : BankModel) (sound : Sound m) where
   codes_within p h = (sound.sound p h).within
 
   -- on a board with few enough states the weights and the numbers of the first k codes are as small
-  pub small : (k : ℕ) → k ≤ m.parts → weight (counts m) m.parts ≤ 4096 → (weight (counts m) k ≤ 4096) × (number (counts m) (codes m) k < 4096)
+  pub small : (k : ℕ) → k ≤ m.parts → weight (counts m) m.parts ≤ 4096 → (weight (counts m) k ≤ 4096) × (number (counts m) (present_codes m) k < 4096)
   small k h few =
       let grows = weight_grows (counts m) k m.parts h some_codes in
-      let below = number_below (counts m) (codes m) k (λ p l. codes_within p (omega arith)) in
+      let below = number_below (counts m) (present_codes m) k (λ p l. codes_within p (omega arith)) in
       (omega arith, omega arith)
 
   module _ (rules : List Rule) where
-    -- the present state decodes to the present codes
-    pub numbered : Numbered m rules (present m rules)
-    numbered some =
-        let w = flawless (layout_of m rules) some in
-        let e = present_is m rules w in
-        let below = number_below (counts m) (codes m) m.parts codes_within in (
+    -- the number of the present codes decodes to them
+    pub numbered : (s : ℕ) → Flawless (layout_of m rules) → s ≡ number (counts m) (λ p. (m.device p).code) m.parts → Numbered m rules s
+    numbered s w e some =
+        let below = number_below (counts m) (present_codes m) m.parts codes_within in (
           omega (arith, states_are (layout_of m rules) w),
-          λ p h. code_there (layout_of m rules) (present m rules) p h ∙ ap (λ n. digit (counts m) n p) e ∙ digit_number (counts m) (codes m) m.parts codes_within p h,
+          λ p h. code_there (layout_of m rules) s p h ∙ ap (λ n. digit (counts m) n p) e ∙ digit_number (counts m) (present_codes m) m.parts codes_within p h,
         )
+
+    -- and so does the present state
+    pub present_numbered : Numbered m rules (present m rules)
+    present_numbered some = let w = flawless (layout_of m rules) some in numbered (present m rules) w (present_is m rules w) some
 
     -- the codes of a state make it again
     pub decoded : (s : ℕ) → Decoded (layout_of m rules) s

@@ -1,6 +1,6 @@
 -- The listed bank.
 --   bank_from   the bank that a list of parts is
---   shown       what a listed bank shows
+--   listed_model   what a listed bank shows
 --   Shows       what is told of a part that is looked up
 --   Put         each part put on its code of a state
 --   SetTo       the bank put on a state that it has
@@ -29,8 +29,8 @@ bank_from ps = record {
 }
 
 -- what a listed bank shows
-abbrev pub shown : Listed → BankModel
-shown b = bank_from (vec_items b.parts)
+abbrev pub listed_model : Listed → BankModel
+listed_model b = bank_from (vec_items b.parts)
 
 -- what is told of part p: none where it is absent
 abbrev pub Shows : BankModel → ℕ → Option (Bor Part) → Type 0

@@ -1,6 +1,6 @@
 // The listed bank's questions and writes.
 ghost use Rattle.bank.specs.Banks.{Written, Willing};
-ghost use Rattle.listed.specs.Listing.{shown, Shows};
+ghost use Rattle.listed.specs.Listing.{listed_model, Shows};
 ghost use Rattle.listed.specs.Soundness.{listed_sound};
 
 use super::Listed;
@@ -11,14 +11,14 @@ use listing::Part;
 impl Listed {
     // The part of this number.
     fn at(&self, part: u8) -> Option<&Part>
-        ensures { Shows (shown self.now) part result }
+        ensures { Shows (listed_model self.now) part result }
     {
         self.parts.get(usize::from(part))
     }
 }
 
 impl Bank for Listed {
-    ghost model = { shown };
+    ghost model = { listed_model };
 
     ghost sound = { λ x. listed_sound x.parts.items x.few };
 
@@ -51,8 +51,8 @@ impl Bank for Listed {
     }
 
     fn write(&mut self, part: u8, code: Code) -> Answer
-        ensures written { Written (shown self.old) part code result (shown self.new) }
-        ensures willing { Willing (shown self.old) part code result }
+        ensures written { Written (listed_model self.old) part code result (listed_model self.new) }
+        ensures willing { Willing (listed_model self.old) part code result }
     {
         match self.parts.get_mut(usize::from(part)) {
             Some(device) => device.write(code),

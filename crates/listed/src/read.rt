@@ -4,7 +4,7 @@ ghost use Rattle.listing.specs.Listed.{lists_of};
 ghost use Rattle.listing.specs.Lists.{listing as listed_by};
 ghost use Rattle.table.specs.Answered.{SentBack};
 ghost use Rattle.listed.specs.Figured.{bank_of};
-ghost use Rattle.listed.specs.Listing.{bank_from, shown, CameFrom};
+ghost use Rattle.listed.specs.Listing.{bank_from, listed_model, CameFrom};
 
 use super::Listed;
 use answer::Fault;
@@ -15,8 +15,8 @@ use table::Rule;
 impl Listed {
     // The bank of what a table lists, and its rules.
     pub fn from_listing(listing: Listing) -> (Listed, Vec<Rule>)
-        ensures bank { shown result.0 ≡ bank_from listing.parts.items }
-        ensures fresh { shown result.0 ≡ bank_of (lists_of listing).parts }
+        ensures bank { listed_model result.0 ≡ bank_from listing.parts.items }
+        ensures fresh { listed_model result.0 ≡ bank_of (lists_of listing).parts }
         ensures rules { result.1 ≡ listing.rules }
     {
         let (parts, rules) = listing.into_lists();
@@ -26,7 +26,7 @@ impl Listed {
     // The bank that the bytes of a table list, every part at code 0 with no write counted, and the table's rules; or the
     // table's first fault.
     pub fn read(heap: Global, table: &[u8]) -> Result<(Listed, Vec<Rule>), Fault>
-        ensures { MatchResult result (λ x. CameFrom table.now (shown x.0) x.1.items) (λ f. SentBack (listed_by table.now) f) }
+        ensures { MatchResult result (λ x. CameFrom table.now (listed_model x.0) x.1.items) (λ f. SentBack (listed_by table.now) f) }
     {
         let listing = Listing::read(heap, table)?;
         Ok(Listed::from_listing(listing))

@@ -3,7 +3,7 @@ ghost use Rattle.std.specs.Prelude.{◌≡◌, ◌≤◌, MatchResult};
 ghost use Rattle.answer.specs.Faults.{table_fault};
 ghost use Rattle.answer.specs.declared.refusal.Refusal.TheVariants.{NoSuchState};
 ghost use Rattle.bank.specs.States.{spans as spanned};
-ghost use Rattle.listed.specs.Listing.{shown, Put, SetTo};
+ghost use Rattle.listed.specs.Listing.{listed_model, Put, SetTo};
 
 use super::Listed;
 use answer::{Fault, Refusal, State};
@@ -15,7 +15,7 @@ use table::MOST_PARTS;
 impl Listed {
     // The number of states of the bank by itself.
     fn spans(&self) -> usize
-        ensures { result ≡ spanned (shown self.now) }
+        ensures { result ≡ spanned (listed_model self.now) }
     {
         if (1..=MOST_PARTS).contains(&self.parts.len()) {
             product(self).unwrap_or(0)
@@ -26,7 +26,7 @@ impl Listed {
 
     // Puts each part on its code of a state.
     fn put(&mut self, state: State)
-        ensures { Put (shown self.old) state (shown self.new) }
+        ensures { Put (listed_model self.old) state (listed_model self.new) }
     {
         let mut rest = state;
         for part in self.parts.iter_mut() {
@@ -38,7 +38,7 @@ impl Listed {
 
     // Puts the bank on a state without a write: the tallies stay. A state that there is not is 9, and changes nothing.
     pub fn set(&mut self, state: State) -> Result<(), Fault>
-        ensures { MatchResult result (λ _. SetTo (shown self.old) state (shown self.new)) (λ f. (spanned (shown self.old) ≤ state) × (f ≡ table_fault NoSuchState 0) × (self.new.parts ≡ self.old.parts)) }
+        ensures { MatchResult result (λ _. SetTo (listed_model self.old) state (listed_model self.new)) (λ f. (spanned (listed_model self.old) ≤ state) × (f ≡ table_fault NoSuchState 0) × (self.new.parts ≡ self.old.parts)) }
     {
         if usize::from(state) >= self.spans() {
             return Err(Fault::table(Refusal::NoSuchState, 0));
