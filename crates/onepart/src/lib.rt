@@ -33,11 +33,7 @@ impl<D: Device> Bank for OnePart<D> {
     }
 
     fn kind(&self, part: u8) -> Option<Kind> {
-        if part == 0 {
-            Some(self.device.kind())
-        } else {
-            None
-        }
+        (part == 0).then(|| self.device.kind())
     }
 
     fn count(&self, part: u8) -> Code {
