@@ -57,6 +57,7 @@ fn refused(heap: Global, fault: Fault) -> Result<Vec<Line>, Fault>
 }
 
 // The lines for a table: its parts' codes with their levels and then its rules, or its refusal alone.
+// The allocator comes before the table, as in every call that allocates, here and in the library.
 pub fn levels(heap: Global, table: &[u8]) -> Result<Vec<Line>, Fault>
     ensures { MatchResult result (λ v. v.items ≡ lines_of (listed table.now)) (λ f. f ≡ memory_fault) }
 {
