@@ -13,7 +13,7 @@ mod tests {
     use answer::State;
     use board::Board;
     use listed::Listed;
-    use search::Graph;
+    use search::{Graph, count_joined, count_lawful};
     use std::alloc::Global;
     use std::process::Abort;
     use std::test::Fail;
@@ -30,22 +30,18 @@ mod tests {
         let (bank, rules) = Listed::read(heap, table)?;
         let board = Board::new(bank, rules);
         assert_eq!(rt; board.states(), states);
-        // Counted by hand, beside the assertions on each state and each pair.
-        let mut good = 0usize;
-        let mut pairs = 0usize;
         for from in 0..1_000u16 {
             assert_eq!(rt; board.lawful(from), lawful.contains(&from));
-            if board.lawful(from) {
-                good = good.saturating_add(1);
-            }
             for to in 0..1_000u16 {
                 if board.joined(from, to) {
                     assert!(rt; joined.contains(&(from, to)));
-                    pairs = pairs.saturating_add(1);
                 }
             }
         }
-        assert_eq!(rt; good, lawful.len());
+        let pairs = (0..1_000u16)
+            .map(|from| count_joined(&board, from))
+            .fold(0, usize::saturating_add);
+        assert_eq!(rt; count_lawful(&board), lawful.len());
         assert_eq!(rt; pairs, joined.len());
         Ok(())
     }
