@@ -1,8 +1,7 @@
 // The divider clock: rate = parent ÷ (code + 1), rounded up.
 ghost use Rattle.std.specs.Prelude.{◌≡◌, refl};
 ghost use Rattle.device.specs.Device.{Written, Willing};
-ghost use Rattle.device.specs.Figures.{divider, Made};
-ghost use Rattle.device.specs.declared.kind.Kind.TheVariants.{Clock};
+ghost use Rattle.device.specs.Figures.{kind_of, divider, Made};
 ghost use Rattle.device.specs.Kinds.{clock_no_rail};
 ghost use Rattle.clocks.specs.Supplied.{divider_figures, divider_model};
 ghost use Rattle.clocks.specs.Sounds.{divider_sound};
@@ -34,7 +33,7 @@ impl DividerClock {
 impl Device for DividerClock {
     ghost model = { divider_model };
 
-    ghost kind = { λ _. Clock };
+    ghost kind = { λ d. kind_of (divider_figures d) };
 
     ghost sound = { divider_sound };
 
@@ -71,7 +70,7 @@ impl Device for DividerClock {
     // As in each kind: which writes there are is its own, what a write does is the register's. One struct over the four kinds
     // would take a trait for what they differ in, a second one for rails and for clocks, and save such lines alone.
     fn write(&mut self, code: Code) -> Answer
-        ensures kind { Clock ≡ Clock }
+        ensures kind { kind_of (divider_figures self.new) ≡ kind_of (divider_figures self.old) }
         ensures written { Written (divider_model self.old) code result (divider_model self.new) }
         ensures willing { Willing (divider_model self.old) code result }
     {

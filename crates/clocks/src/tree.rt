@@ -1,8 +1,7 @@
 // The tree clock: code = parent number × number of divisors + k, rate = parent ÷ (k + 1), rounded up.
 ghost use Rattle.std.specs.Prelude.{◌≡◌, refl};
 ghost use Rattle.device.specs.Device.{Written, Willing};
-ghost use Rattle.device.specs.Figures.{tree, Made};
-ghost use Rattle.device.specs.declared.kind.Kind.TheVariants.{Clock};
+ghost use Rattle.device.specs.Figures.{kind_of, tree, Made};
 ghost use Rattle.device.specs.Kinds.{clock_no_rail};
 ghost use Rattle.clocks.specs.Supplied.{tree_figures, tree_model};
 ghost use Rattle.clocks.specs.Sounds.{tree_sound};
@@ -37,7 +36,7 @@ impl TreeClock {
 impl Device for TreeClock {
     ghost model = { tree_model };
 
-    ghost kind = { λ _. Clock };
+    ghost kind = { λ d. kind_of (tree_figures d) };
 
     ghost sound = { tree_sound };
 
@@ -76,7 +75,7 @@ impl Device for TreeClock {
     // As in each kind: which writes there are is its own, what a write does is the register's. One struct over the four kinds
     // would take a trait for what they differ in, a second one for rails and for clocks, and save such lines alone.
     fn write(&mut self, code: Code) -> Answer
-        ensures kind { Clock ≡ Clock }
+        ensures kind { kind_of (tree_figures self.new) ≡ kind_of (tree_figures self.old) }
         ensures written { Written (tree_model self.old) code result (tree_model self.new) }
         ensures willing { Willing (tree_model self.old) code result }
     {

@@ -1,8 +1,7 @@
 // The linear rail: level = lowest + code × step.
 ghost use Rattle.std.specs.Prelude.{◌≡◌, refl};
 ghost use Rattle.device.specs.Device.{Written, Willing};
-ghost use Rattle.device.specs.Figures.{linear, Made};
-ghost use Rattle.device.specs.declared.kind.Kind.TheVariants.{Rail};
+ghost use Rattle.device.specs.Figures.{kind_of, linear, Made};
 ghost use Rattle.rails.specs.Supplied.{linear_figures, linear_model};
 ghost use Rattle.rails.specs.Sounds.{linear_sound};
 
@@ -33,7 +32,7 @@ impl LinearRail {
 impl Device for LinearRail {
     ghost model = { linear_model };
 
-    ghost kind = { λ _. Rail };
+    ghost kind = { λ d. kind_of (linear_figures d) };
 
     ghost sound = { linear_sound };
 
@@ -70,7 +69,7 @@ impl Device for LinearRail {
     // As in each kind: which writes there are is its own, what a write does is the register's. One struct over the four kinds
     // would take a trait for what they differ in, a second one for rails and for clocks, and save such lines alone.
     fn write(&mut self, code: Code) -> Answer
-        ensures kind { Rail ≡ Rail }
+        ensures kind { kind_of (linear_figures self.new) ≡ kind_of (linear_figures self.old) }
         ensures written { Written (linear_model self.old) code result (linear_model self.new) }
         ensures willing { Willing (linear_model self.old) code result }
     {

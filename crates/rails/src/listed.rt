@@ -1,8 +1,7 @@
 // The table rail: a list has the level of each code.
 ghost use Rattle.std.specs.Prelude.{◌≡◌, refl};
 ghost use Rattle.device.specs.Device.{Written, Willing};
-ghost use Rattle.device.specs.Figures.{listed, Made};
-ghost use Rattle.device.specs.declared.kind.Kind.TheVariants.{Rail};
+ghost use Rattle.device.specs.Figures.{kind_of, listed, Made};
 ghost use Rattle.rails.specs.Supplied.{table_figures, table_model};
 ghost use Rattle.rails.specs.Sounds.{table_sound};
 
@@ -34,7 +33,7 @@ impl TableRail {
 impl Device for TableRail {
     ghost model = { table_model };
 
-    ghost kind = { λ _. Rail };
+    ghost kind = { λ d. kind_of (table_figures d) };
 
     ghost sound = { table_sound };
 
@@ -67,7 +66,7 @@ impl Device for TableRail {
     // As in each kind: which writes there are is its own, what a write does is the register's. One struct over the four kinds
     // would take a trait for what they differ in, a second one for rails and for clocks, and save such lines alone.
     fn write(&mut self, code: Code) -> Answer
-        ensures kind { Rail ≡ Rail }
+        ensures kind { kind_of (table_figures self.new) ≡ kind_of (table_figures self.old) }
         ensures written { Written (table_model self.old) code result (table_model self.new) }
         ensures willing { Willing (table_model self.old) code result }
     {
