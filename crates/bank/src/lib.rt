@@ -34,7 +34,7 @@ pub trait Bank {
     fn level(&self, part: u8, code: Code) -> u32
         ensures { result ≡ ((model self.now).device part).level code };
 
-    // Whether one write joins the two codes of a part.
+    // Whether one write joins the two codes of a part: a part and two codes, and no struct of them, which would have no method.
     fn linked(&self, part: u8, from: Code, to: Code) -> bool
         ensures { result ≡ ((model self.now).device part).linked from to };
 

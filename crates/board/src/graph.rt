@@ -28,7 +28,8 @@ impl<B: Bank> Graph for Board<B> {
         usize::from(state) < self.states() && self.keeps(state)
     }
 
-    // The cheap tests come first: most pairs differ in more than one part.
+    // The cheap tests come first: most pairs differ in more than one part. Two states, and no struct of them: it would have no
+    // method.
     fn joined(&self, from: State, to: State) -> bool
         ensures value { result ≡ are_joined (layout B.model self.now) from to }
         ensures decides { Decides result (Joined (layout B.model self.now) from to) }

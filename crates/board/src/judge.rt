@@ -17,7 +17,7 @@ fn all_named<B: Bank>(bank: &B, rules: &[Rule]) -> bool
     rules.iter().all(|rule| fits_rule(bank, rule))
 }
 
-// The number of states, or the first defect: no part, too many parts, rules or states, a rule that fits no part.
+// The number of states, or the first defect: no part, too many parts, rules or states, a rule that names no fitting part.
 // The bank and the rules by themselves: a board is made with what is judged here.
 pub(crate) fn judge<B: Bank>(bank: &B, rules: &[Rule]) -> Result<usize, Refusal>
     ensures { result ≡ verdict_of (layout_of (B.model bank.now) rules.now) }

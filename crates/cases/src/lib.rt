@@ -29,7 +29,7 @@ mod tests {
         }
     }
 
-    // Where a record ends, and so a shorter table that is accepted, but for the empty one.
+    // Where a record ends, and so a shorter table that is accepted, but for the empty one: a table of constants, so an array.
     const ENDS: [usize; 7] = [0, 13, 29, 38, 48, 57, 71];
 
     #[test]

@@ -56,7 +56,8 @@ impl Register {
         };
     }
 
-    // Answers a write of a code: done and counted where there is such a write, else nothing changes.
+    // Answers a write of a code: done and counted where there is such a write, else nothing changes. Whether there is one is
+    // the device's word, for any code.
     pub fn write(&mut self, exists: bool, code: Code) -> Answer
         ensures answer { result ≡ (if exists then Done else NoSuchWrite) }
         ensures code { self.new.code ≡ (if exists then code else self.old.code) }
@@ -69,7 +70,7 @@ impl Register {
         Answer::Done
     }
 
-    // Puts a code below the count in without a write; any other code is no, and changes nothing.
+    // Puts in a code that is below the count, without a write; any other is answered no, and changes nothing.
     pub fn set_below(&mut self, count: Code, code: Code) -> bool
         ensures has { result ≡ nat_lt code count }
         ensures code { self.new.code ≡ (if nat_lt code count then code else self.old.code) }

@@ -1,4 +1,4 @@
-// A supplied device: it never balks, and a bench can put it on a code.
+// A device that a bench can put on a code. The supplied kinds never balk either: `willing` of their `write`.
 ghost use Rattle.std.specs.Prelude.{◌≡◌, nat_lt};
 ghost use Rattle.device.specs.Device.{set_on};
 

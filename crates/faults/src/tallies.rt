@@ -30,6 +30,7 @@ impl Tallies {
         requires { part < 32 }
         ensures { self.new.counts ≡ slice_set self.old.counts part (counted_on (slice_index self.old.counts part)) }
     {
+        // No loop: the count is what a tally is.
         let tally = &mut self.counts[usize::from(part)];
         *tally = tally.saturating_add(1);
     }

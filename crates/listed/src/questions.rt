@@ -54,6 +54,7 @@ impl Bank for Listed {
         ensures written { Written (listed_model self.old) part code result (listed_model self.new) }
         ensures willing { Willing (listed_model self.old) part code result }
     {
+        // A `match`: through a `map_or` whose closure writes, what the bank then shows stays open in the proof.
         match self.parts.get_mut(usize::from(part)) {
             Some(device) => device.write(code),
             None => Answer::NoSuchWrite,

@@ -13,7 +13,7 @@ use std::alloc::Global;
 use table::Rule;
 
 impl Listed {
-    // The bank of what a table lists, and its rules. No `From`: each of the two has its clauses.
+    // The bank of what a table lists, and its rules. No `From`: it hands out two values, each with its clauses.
     pub fn from_listing(listing: Listing) -> (Listed, Vec<Rule>)
         ensures bank { listed_model result.0 ≡ bank_from listing.parts.items }
         ensures fresh { listed_model result.0 ≡ bank_of (lists_of listing).parts }

@@ -1,5 +1,5 @@
-// A part of a board: one of the supplied devices. A table has these kinds and no other, so a question is a `match` and no
-// call through `dyn`, which would want a box for each part.
+// A part of a board: one of the supplied devices. A table has these kinds and no other, so a question is a `match`; a function
+// may not hand out a `dyn` that it makes, and a box for each part would have to be allocated.
 ghost use Rattle.std.specs.Prelude.{◌≡◌};
 ghost use Rattle.device.specs.Device.{Written, Willing};
 ghost use Rattle.device.specs.Figures.{kind_of};

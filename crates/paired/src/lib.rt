@@ -31,8 +31,8 @@ impl<A: Bank, B: Bank> Pair<A, B> {
         Pair { first, second }
     }
 
-    // Where a part stands, none past those that are shown. The two banks have two types, so each question tells the three
-    // cases apart; no closure serves both.
+    // Where a part stands, none past those that are shown. The two banks have two types, so each question has a `match`: a
+    // `map_or` over a match of two cases is no plainer than one of three.
     fn place(&self, part: u8) -> Option<Place>
         ensures { Stands (A.model self.now.first) part result }
     {

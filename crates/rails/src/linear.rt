@@ -67,7 +67,7 @@ impl Device for LinearRail {
     }
 
     // As in each kind: which writes there are is its own, what a write does is the register's. One struct over the four kinds
-    // would take a trait for what they differ in, a second one for rails and for clocks, and save such lines alone.
+    // would save these lines, and each definition that names a part would take what the struct's bound brings.
     fn write(&mut self, code: Code) -> Answer
         ensures kind { kind_of (linear_figures self.new) ≡ kind_of (linear_figures self.old) }
         ensures written { Written (linear_model self.old) code result (linear_model self.new) }
@@ -83,6 +83,7 @@ impl Regulator for LinearRail {
 }
 
 impl Supplied for LinearRail {
+    // As `write`: how many codes there are is the kind's own, the rest is the register's.
     fn set(&mut self, code: Code) -> bool {
         let count = self.count();
         self.register.set_below(count, code)

@@ -18,7 +18,7 @@ mod tests {
     use std::process::Abort;
     use std::test::Fail;
 
-    // The states below a number that a board holds lawful, and those that it joins, each in order.
+    // Compares the board of a table with its number of states, its lawful states and its joined pairs.
     fn compare(
         rt: &impl Abort,
         heap: Global,
@@ -46,7 +46,7 @@ mod tests {
         Ok(())
     }
 
-    // A test takes no table: a function for each board.
+    // One test for each board: one that fails names its board.
     #[test]
     fn worked_board(rt: HostRuntime) -> Result<(), Fail> {
         compare(

@@ -6,8 +6,8 @@ ghost use Rattle.table.specs.Names.{is_of, names_ok};
 use super::rule::Rule;
 use device::Kind;
 
-// What has parts, each of a kind. A trait and no closure: a clause names the kinds of all parts, and of a closure only what
-// single calls answered.
+// What has parts, each of a kind. A trait and no closure: a clause names the kinds of all parts; of a closure it could
+// tell only what single calls answered.
 pub trait Kinds {
     // The kind of each part, by its number; none of an absent part.
     ghost kinds: { Self → ℕ → Option PartKind };
