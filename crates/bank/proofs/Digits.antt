@@ -94,6 +94,12 @@ module _ (count : ℕ → ℕ) where
   pub digit_below : (s p : ℕ) → 1 ≤ count p → digit count s p < count p
   digit_below s p h = mod_below (s / weight count p) (count p) h
 
+  -- states that agree in every part are one
+  pub digits_same : (s t k : ℕ) → ((p : ℕ) → p < k → 1 ≤ count p) → s < weight count k → t < weight count k
+      → ((p : ℕ) → p < k → digit count s p ≡ digit count t p) → s ≡ t
+  digits_same s t k some hs ht same =
+      sym (number_digit s k some hs) ∙ number_same (digit count s) (digit count t) k same ∙ number_digit t k some ht
+
   -- what is left of a state number past one part more
   pub rest_more : (s p : ℕ) → s / weight count p / count p ≡ s / weight count (suc p)
   rest_more s p = div-div-eq-div-mul s (weight count p) (count p)

@@ -1,13 +1,20 @@
 -- The lines that the programs print, byte by byte, without the newline.
+--   kind_word    the word for the kind of a part, or for an absent part
 --   rule_bytes   a rule with its figures
 --   line_bytes   a line
-use Rattle.std.specs.Prelude.{ℕ, List, ◌++◌, codes, decimal}
+use Rattle.std.specs.Prelude.{ℕ, List, Option, Some, None, ◌++◌, codes, decimal}
 use Rattle.answer.specs.Answers.{refusal_number}
-use Rattle.device.specs.Answers.{kind_word}
+use Rattle.device.specs.Answers as device
+use Rattle.device.specs.declared.kind.Kind.{Kind}
 use Rattle.table.specs.declared.rule.Rule.TheVariants as rules
 use Rattle.table.specs.declared.rule.Rule.{Rule as BoardRule}
 use Rattle.bench.specs.declared.line.Line.{Line}
 use Rattle.bench.specs.declared.line.Line.TheVariants.{Level, Rule, States, Lawful, Refused}
+
+-- the word for the kind of a part, or for a part that is absent
+abbrev pub kind_word : Option Kind → List ℕ
+kind_word (Some kind) = device.kind_word kind
+kind_word None = codes "absent"
 
 -- a rule with its figures: µV for rails, kHz for clocks
 abbrev pub rule_bytes : BoardRule → List ℕ

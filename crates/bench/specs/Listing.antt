@@ -2,7 +2,7 @@
 --   code_lines   the codes of a part with their levels
 --   part_lines   the codes of all parts, from a part number on
 --   lines_of     the lines for what a table lists, or for why it is sent back
-use Rattle.std.specs.Prelude.{ℕ, ◌+◌, List, [], ◌∷◌, ◌++◌, map}
+use Rattle.std.specs.Prelude.{ℕ, ◌+◌, List, Some, [], ◌∷◌, ◌++◌, map}
 use Rattle.std.specs.List.{range_with_len}
 use Rattle.device.specs.Figures.{Figures, kind_of, codes_of, level_of}
 use Rattle.listing.specs.Lists.{Lists}
@@ -12,7 +12,7 @@ use Rattle.bench.specs.declared.line.Line.TheVariants.{Level, Rule, Refused}
 
 -- each code of a part, with its level
 abbrev pub code_lines : ℕ → Figures → List Line
-code_lines number f = map (λ c. Level (kind_of f) number c (level_of f c)) (range_with_len 0 (codes_of f))
+code_lines number f = map (λ c. Level (Some (kind_of f)) number c (level_of f c)) (range_with_len 0 (codes_of f))
 
 -- the codes of all parts, numbered from here on
 abbrev pub part_lines : ℕ → List Figures → List Line

@@ -17,7 +17,7 @@ use std::alloc::{AllocError, Global};
 fn add_codes(lines: &mut Vec<Line>, number: u8, part: &Part) -> Result<(), AllocError>
     ensures { OnOk result (lines.new.items ≡ lines.old.items ++ code_lines number (part_figures part.now)) }
 {
-    let kind = part.kind();
+    let kind = Some(part.kind());
     let codes = 0..part.count();
     lines.extend(codes.map(|code| Line::Level {
         kind,
@@ -45,6 +45,13 @@ fn add_rules(lines: &mut Vec<Line>, listing: &Listing) -> Result<(), AllocError>
     lines.extend(listing.rules().iter().map(|rule| Line::Rule(*rule)))
 }
 
+// How many lines there are for a listing: one for each code of a part, and one for each rule. It has no clause: only how much
+// memory is asked for depends on it.
+fn room(listing: &Listing) -> usize {
+    let codes = listing.parts().iter().map(|part| usize::from(part.count()));
+    codes.fold(listing.rules().len(), usize::saturating_add)
+}
+
 // The one line of a refused table. Want of memory is no refusal of the table, and stays a fault.
 fn refused(heap: Global, fault: Fault) -> Result<Vec<Line>, Fault>
     ensures line { MatchResult result (λ v. v.items ≡ Refused fault.refusal ∷ []) (λ f. f ≡ memory_fault) }
@@ -63,7 +70,8 @@ pub fn levels(heap: Global, table: &[u8]) -> Result<Vec<Line>, Fault>
 {
     match Listing::read(heap, table) {
         Ok(listing) => {
-            let mut lines = Vec::new(heap);
+            // Room for all lines at once: a list that grew part by part would at last have up to twice of it.
+            let mut lines = Vec::with_capacity(heap, room(&listing))?;
             add_parts(&mut lines, &listing)?;
             add_rules(&mut lines, &listing)?;
             Ok(lines)

@@ -10,9 +10,9 @@ use table::Rule;
 
 #[derive(Clone, Copy, Debug, PartialEq, Eq)]
 pub enum Line {
-    // A code of a part, and the level that it stands for.
+    // A code of a part, and the level that it stands for. A part that is absent has no kind.
     Level {
-        kind: Kind,
+        kind: Option<Kind>,
         part: u8,
         code: Code,
         level: u32,
@@ -38,7 +38,13 @@ impl fmt::Display for Line {
                 part,
                 code,
                 level,
-            } => write!(f, "{kind} {part} code {code} at {level}"),
+            } => {
+                match kind {
+                    Some(kind) => write!(f, "{kind}")?,
+                    None => f.write_str("absent")?,
+                }
+                write!(f, " {part} code {code} at {level}")
+            }
             Line::Rule(rule) => match rule {
                 Rule::Window {
                     rail,

@@ -8,8 +8,12 @@ use Rattle.device.specs.Figures.{kind_of}
 use Rattle.device.specs.declared.answers.Answer.{Answer}
 use Rattle.listing.specs.Parts.{part_figures, part_model}
 use Rattle.listing.specs.declared.part.Part.{Part}
-use Rattle.bank.specs.Banks.{Written}
+use Rattle.bank.specs.Banks.{BankModel, Written}
 use Rattle.listed.specs.Listing.{bank_from}
+
+-- a write to a part is one to the part of this number
+pub written_at : {m n : BankModel} {i p c : ℕ} {a : Answer} → Written m i c a n → i ≡ p → Written m p c a n
+written_at {m} {n} {i} {p} {c} {a} w e = subst (λ q. Written m q c a n) e w
 
 -- the others are as they were
 pub device_other : (ps : List Part) (i q : ℕ) (y : Part) → (q ≢ i) → (bank_from (set ps i y)).device q ≡ (bank_from ps).device q

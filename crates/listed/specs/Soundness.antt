@@ -17,7 +17,7 @@ use Rattle.listed.specs.Figured.{at_or}
 use Rattle.listed.specs.Listing.{bank_from}
 
 -- past the end
-at_past : {X Y : Type 0} (f : X → Y) (z : Y) (xs : List X) (i : ℕ) → length xs ≤ i → at_or f z xs i ≡ z
+pub at_past : {X Y : Type 0} (f : X → Y) (z : Y) (xs : List X) (i : ℕ) → length xs ≤ i → at_or f z xs i ≡ z
 at_past f z xs i h = get_or_past (map f xs) i z (omega (arith, length-map xs f))
 
 -- what holds of each part by itself holds of it in the bank

@@ -28,10 +28,10 @@ impl Listing {
     }
 
     // The number of states: the product of the parts' counts.
-    pub fn states(&self) -> usize
+    pub fn states(&self) -> u32
         ensures { result ≡ product (lists_of self.now).parts }
     {
-        self.states
+        self.states as u32
     }
 
     // The parts and the rules, taken apart, as the library's `into_parts` does.
