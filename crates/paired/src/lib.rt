@@ -39,7 +39,7 @@ impl<A: Bank, B: Bank> Pair<A, B> {
         if part >= MOST_SHOWN {
             return None;
         }
-        // One subtraction tells both: with a test apart from it, a write through six nested banks took 1.6 times the instructions.
+        // One subtraction tells both: with a test beside it, a write through six nested banks took 1.5 times the instructions.
         Some(match part.checked_sub(self.first.parts()) {
             Some(at) => Place::Second(at),
             None => Place::First(part),
