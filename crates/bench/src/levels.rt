@@ -70,8 +70,10 @@ pub fn levels(heap: Global, table: &[u8]) -> Result<Vec<Line>, Fault>
 {
     match Listing::read(heap, table) {
         Ok(listing) => {
-            // Room for all lines at once: a list that grew part by part would at last have up to twice of it.
-            let mut lines = Vec::with_capacity(heap, room(&listing))?;
+            let mut lines = Vec::new(heap);
+            // Room for all lines at once: a list that grew part by part would at last have up to twice of it. Where it is not to be
+            // had, the list grows as it can.
+            let _ = lines.reserve_exact(room(&listing));
             add_parts(&mut lines, &listing)?;
             add_rules(&mut lines, &listing)?;
             Ok(lines)
